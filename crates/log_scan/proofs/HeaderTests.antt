@@ -1,0 +1,42 @@
+-- What a log header's test says, test by test.
+use Rattle.std.proofs.Common.{◌≡◌, ℕ, ◌<◌, ◌≤◌, true, List, drop, Option, Some, None, sym, arith}
+use Rattle.std.proofs.lemmas.Bool.{and_parts, and_from, eqb-true, eq-eqb, leb-true, le-leb, ltb-true, lt-ltb}
+use Rattle.lufs_base.specs.Fields.{u32_at}
+use Rattle.lufs_base.specs.Layout.{ring_of}
+use Rattle.lufs_base.specs.declared.geometry.Geometry.{Geometry}
+use Rattle.volume_model.specs.declared.log.Header.{Header}
+use Rattle.volume_model.specs.Image.{are_zeros}
+use Rattle.volume_model.specs.LogHeader.{named_header, is_header, header_of}
+use Rattle.log_scan.proofs.Tests.{refused, given}
+
+pub record IsHeader (g : Geometry) (s : List ℕ) : Type 0 where
+  pub magic : u32_at s 0 ≡ 0x4C554653
+  pub zeros : are_zeros (drop 16 s) ≡ true
+  pub epoch : 1 ≤ u32_at s 4
+  pub head : u32_at s 8 < ring_of g
+  pub tid : 1 ≤ u32_at s 12
+
+parts : (g : Geometry) (s : List ℕ) → is_header g s ≡ true → IsHeader g s
+parts g s test =
+    let four = and_parts _ _ test in
+    let three = and_parts _ _ four.0 in
+    let two = and_parts _ _ three.0 in
+    let one = and_parts _ _ two.0 in
+    record {
+      magic = eqb-true _ _ one.0;
+      zeros = one.1;
+      epoch = leb-true _ _ two.1;
+      head = ltb-true _ _ three.1;
+      tid = leb-true _ _ four.1;
+    }
+
+pub no_header : (g : Geometry) (s : List ℕ) → (IsHeader g s → ⊥) → None ≡ header_of g s
+unfolding header_of
+no_header g s fails = refused (is_header g s) (named_header s) (λ test. fails (parts g s test))
+
+pub a_header : (g : Geometry) (s : List ℕ) (h : Header) → IsHeader g s → h ≡ named_header s → Some h ≡ header_of g s
+unfolding header_of
+a_header g s h is same =
+    given (is_header g s) (named_header s) h
+    (and_from _ _ (and_from _ _ (and_from _ _ (and_from _ _ (eq-eqb _ _ is.magic) is.zeros) (le-leb _ _ is.epoch)) (lt-ltb _ _ is.head)) (le-leb _ _ is.tid))
+    same

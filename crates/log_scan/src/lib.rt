@@ -1,0 +1,11 @@
+//! Reads the log of a volume: the superblock, the log header, and the committed transactions in the
+//! ring, each exactly as the format says (`docs/FORMAT.md`).
+#![tactic(auto)]
+
+mod header;
+mod superblock;
+mod zeros;
+
+pub use header::{BadHeader, read_header};
+pub use superblock::{NotVolume, read_super};
+pub use volume_model::{Header, Tx, TxList};

@@ -1,0 +1,107 @@
+ghost use Rattle.std.specs.Prelude.{◌≡◌, ℕ, ◌<◌, ◌*◌};
+ghost use Rattle.lufs_base.specs.declared.geometry.Geometry.{Geometry};
+ghost use Rattle.lufs_base.specs.declared.geometry.Region.{Region};
+ghost use Rattle.lufs_base.specs.Layout.{IsGeometry, blocks_of, ring_of, need_of, group_start, inode_address, region_of, InRegion};
+
+use crate::{BlockNo, Ino};
+
+/// The numbers that a volume is laid out by (`docs/FORMAT.md`, "Layout").
+#[derive(Clone, Copy, Debug, PartialEq, Eq, Hash)]
+pub struct Geometry {
+    pub version: u32,
+    /// Groups of the volume.
+    pub groups: u32,
+    /// Blocks of a group.
+    pub bpg: u32,
+    /// Inodes of a group.
+    pub ipg: u32,
+    /// Sectors of the log, its header among them.
+    pub log: u32,
+}
+
+/// What a block is for. A block of a group has the group's number.
+#[derive(Clone, Copy, Debug, PartialEq, Eq, Hash)]
+pub enum Region {
+    Boot,
+    Super,
+    Log,
+    GroupBlock(u32),
+    Inodes(u32),
+    Body(u32),
+}
+
+impl Geometry {
+    /// Blocks of the volume.
+    pub fn total(&self) -> u32
+        requires { IsGeometry self.now }
+        ensures { result ≡ blocks_of self.now }
+    {
+        3 + self.log / 8 + self.groups * self.bpg
+    }
+
+    /// Sectors of the ring: those of the log without its header.
+    pub fn ring(&self) -> u32
+        requires { IsGeometry self.now }
+        ensures { result ≡ ring_of self.now }
+    {
+        self.log - 1
+    }
+
+    /// Bytes of deltas that a changing call reserves.
+    pub fn need(&self) -> u32
+        requires { IsGeometry self.now }
+        ensures { result ≡ need_of self.now }
+    {
+        8_000 + 432 * self.groups
+    }
+
+    /// The first block of group `n`, which holds its group record.
+    pub fn group_block(&self, n: u32) -> BlockNo
+        requires geometry { IsGeometry self.now }
+        requires group { n < self.now.groups }
+        ensures { result.0 ≡ group_start self.now n }
+    {
+        BlockNo(3 + self.log / 8 + n * self.bpg)
+    }
+
+    /// The byte address of the record of inode `i`.
+    pub fn inode_place(&self, i: Ino) -> u64
+        requires geometry { IsGeometry self.now }
+        requires inode { i.0 < self.now.groups * self.now.ipg }
+        ensures { result ≡ inode_address self.now i.0 }
+    {
+        let group = self.group_block(i.0 / self.ipg);
+        4096 * (u64::from(group.0) + 1) + 128 * u64::from(i.0 % self.ipg)
+    }
+
+    /// What block `b` is for.
+    pub fn region(&self, b: BlockNo) -> Region
+        requires geometry { IsGeometry self.now }
+        requires block { b.0 < blocks_of self.now }
+        ensures value { result ≡ region_of self.now b.0 }
+        ensures place { InRegion self.now b.0 result }
+    {
+        let groups = 3 + self.log / 8;
+        match b.0 {
+            0 | 1 => Region::Boot,
+            2 => Region::Super,
+            b if b < groups => Region::Log,
+            b => {
+                let n = (b - groups) / self.bpg;
+                let place = (b - groups) % self.bpg;
+                if place == 0 {
+                    Region::GroupBlock(n)
+                } else if place <= self.ipg / 32 {
+                    Region::Inodes(n)
+                } else {
+                    Region::Body(n)
+                }
+            }
+        }
+    }
+}
+
+/// No block is in two regions.
+pub fn one_region()
+    ensures { (g : Geometry) (b : ℕ) (r s : Region) → IsGeometry g → InRegion g b r → InRegion g b s → r ≡ s }
+{}

@@ -1,0 +1,20 @@
+//! What every other crate speaks of: the small number types, the geometry of a volume, big-endian
+//! fields, and lists that contracts see as lists (`docs/FORMAT.md`).
+#![tactic(auto)]
+
+mod bytes;
+mod delta;
+mod fields;
+mod geometry;
+mod numbers;
+mod wants;
+
+pub use bytes::Bytes;
+pub use delta::{Delta, DeltaKind, DeltaList};
+pub use fields::{get_u16, get_u32, get_u64, one_spelling, put_u16, put_u32, put_u64};
+pub use geometry::{Geometry, Region, one_region};
+pub use numbers::{BlockNo, Epoch, Ino, Tid};
+pub use wants::{DiskFault, Mem};
+
+#[cfg(test)]
+mod tests;

@@ -1,0 +1,39 @@
+use std::alloc::{AllocError, AllocFailed};
+use std::error::Error;
+use std::fmt;
+
+/// Memory was wanted and none was left.
+#[derive(Clone, Copy, Debug, PartialEq, Eq)]
+pub struct Mem;
+
+impl fmt::Display for Mem {
+    fn fmt<W: fmt::Write>(&self, f: &mut fmt::Formatter<W>) -> fmt::Result {
+        f.write_str("no memory")
+    }
+}
+
+impl Error for Mem {}
+
+impl From<AllocError> for Mem {
+    fn from(_: AllocError) -> Self {
+        Mem
+    }
+}
+
+impl<T: Drop> From<AllocFailed<T>> for Mem {
+    fn from(_: AllocFailed<T>) -> Self {
+        Mem
+    }
+}
+
+/// A call of a disk failed. The disk's count of faults says that it did.
+#[derive(Clone, Copy, Debug, PartialEq, Eq)]
+pub struct DiskFault;
+
+impl fmt::Display for DiskFault {
+    fn fmt<W: fmt::Write>(&self, f: &mut fmt::Formatter<W>) -> fmt::Result {
+        f.write_str("disk fault")
+    }
+}
+
+impl Error for DiskFault {}

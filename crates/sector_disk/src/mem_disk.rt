@@ -1,0 +1,226 @@
+ghost use Rattle.std.specs.Prelude.{◌≡◌, ◌≤◌, ◌<◌, ◌⊎◌, ◌↔◌, ℕ, ◌+◌, ◌*◌, ◌%◌, ◌/◌, [], ◌∷◌, ◌++◌, length, IfSome, IsSome, Some, IsErr, is_ok, is_err, if◌then◌else◌, OnOk, OnErr, List, Contains, IsTrue};
+ghost use Rattle.lufs_base.specs.Causes.{HasCause, Rose, counted};
+ghost use Rattle.volume_model.specs.Image.{sectors_of, overwritten};
+ghost use Rattle.volume_model.specs.declared.device_call.DeviceCall.TheVariants.{Write, Flush};
+ghost use Rattle.sector_disk.specs.Disk.{IsWhole, Reads, Writes, Lists, ListsFlush};
+ghost use Rattle.sector_disk.specs.MemDisk.{new_state, opening_of, starved_more, faulted_more, after_read, after_write, after_flush};
+
+use crate::Disk;
+use lufs_base::{Bytes, DiskFault, Mem};
+use std::marker::Model;
+use volume_model::DeviceCall;
+
+/// The k-th call of its kind, from 1, which is to fail.
+#[derive(Clone, Copy, Debug, PartialEq, Eq, Hash)]
+pub enum Fail {
+    Read(u64),
+    Write(u64),
+    Flush(u64),
+}
+
+/// A disk in memory, whose calls fail where they are named, and for want of memory.
+#[derive(Debug, Drop)]
+pub struct MemDisk {
+    image: Vec<u8>,
+    // None before the first listed call: until then the image is as it was.
+    opening: Option<Vec<u8>>,
+    calls: Vec<DeviceCall>,
+    fails: Vec<Fail>,
+    reads: u64,
+    writes: u64,
+    flushes: u64,
+    faults: u64,
+    starved: u64,
+}
+
+impl Model for MemDisk {
+    ghost use Rattle.std.specs.Prelude.{◌≡◌, ◌%◌, length};
+    ghost use Rattle.sector_disk.specs.MemDisk.{State, opening_of};
+
+    ghost Value = { State };
+
+    ghost view = { λ d. record {
+      image = d.image.items;
+      opening = opening_of d.opening d.image.items;
+      calls = d.calls.items;
+      fails = d.fails.items;
+      reads = d.reads;
+      writes = d.writes;
+      flushes = d.flushes;
+      faults = d.faults;
+      starved = d.starved;
+    } };
+
+    ghost invariant = { λ d. length d.image.items % 512 ≡ 0 };
+}
+
+// Whether the call is among those that are to fail.
+fn is_named(fails: &[Fail], call: Fail) -> bool
+    ensures { IsTrue result ↔ Contains fails.now call }
+{
+    fails.contains(&call)
+}
+
+// Adds a call to the list, after the image before the first one. An `Err` adds nothing.
+fn list(
+    image: &Vec<u8>,
+    opening: &mut Option<Vec<u8>>,
+    calls: &mut Vec<DeviceCall>,
+    call: DeviceCall,
+) -> Result<(), Mem>
+    ensures calls { calls.new.items ≡ (if is_ok result then calls.old.items ++ call ∷ [] else calls.old.items) }
+    ensures opening { opening_of opening.new image.now.items ≡ opening_of opening.old image.now.items }
+    // From now on the image may change.
+    ensures kept { OnOk result ((later : List ℕ) → opening_of opening.new later ≡ opening_of opening.old image.now.items) }
+{
+    if opening.is_none() {
+        *opening = Some(image.to_vec(*image.allocator())?);
+    }
+    calls.push(call)?;
+    Ok(())
+}
+
+impl MemDisk {
+    /// A disk of this image, whose named calls fail.
+    pub fn new(image: Vec<u8>, fails: Vec<Fail>) -> Self
+        requires { length image.items % 512 ≡ 0 }
+        ensures { result ≡ new_state image.items fails.items }
+    {
+        MemDisk {
+            calls: Vec::new(*image.allocator()),
+            image,
+            opening: None,
+            fails,
+            reads: 0,
+            writes: 0,
+            flushes: 0,
+            faults: 0,
+            starved: 0,
+        }
+    }
+
+    // Counts a call that failed for want of memory.
+    fn starve(&mut self) -> DiskFault
+        ensures { self.new ≡ starved_more self.old }
+    {
+        self.starved = self.starved.saturating_add(1);
+        self.faults = self.faults.saturating_add(1);
+        DiskFault
+    }
+
+    /// How many calls failed for want of memory.
+    pub fn starved(&self) -> u64
+        ensures { result ≡ self.now.starved }
+    {
+        self.starved
+    }
+}
+
+impl Disk for MemDisk {
+    ghost use Rattle.std.specs.Prelude.{Some, length, refl};
+    ghost use Rattle.volume_model.specs.Image.{sectors_of};
+    ghost use Rattle.sector_disk.specs.MemDisk.{record_of};
+
+    ghost sectors = { λ d. sectors_of d.image };
+
+    ghost present = { λ d. Some d.image };
+
+    ghost listed = { λ d. Some (record_of d) };
+
+    ghost calls = { λ d. length d.calls };
+
+    ghost faults = { λ d. d.faults };
+
+    fn sectors(&self) -> u64 {
+        self.image.len() as u64 / 512
+    }
+
+    fn calls(&self) -> u64 {
+        self.calls.len() as u64
+    }
+
+    fn faults(&self) -> u64 {
+        self.faults
+    }
+
+    /// Fails exactly where the call was named.
+    fn read(&mut self, first: u64, out: &mut [u8]) -> Result<(), DiskFault>
+        requires whole { IsWhole (length out.old) }
+        requires inside { 512 * first + length out.old ≤ 512 * sectors_of self.old.image }
+        ensures named { Contains self.old.fails (Fail.Read (counted self.old.reads)) → IsErr result }
+        ensures only_named { OnErr result (Contains self.old.fails (Fail.Read (counted self.old.reads))) }
+        ensures after { self.new ≡ after_read (is_err result) self.old }
+        ensures bytes { Reads (Some self.old.image) first result out.new }
+        ensures cause { HasCause self.old.faults self.new.faults result }
+    {
+        self.reads = self.reads.saturating_add(1);
+        if is_named(&self.fails, Fail::Read(self.reads)) {
+            self.faults = self.faults.saturating_add(1);
+            return Err(DiskFault);
+        }
+        let at = 512 * first as usize;
+        out.copy_from_slice(&self.image[at..at + out.len()]);
+        Ok(())
+    }
+
+    /// Fails exactly where the call was named, or memory for its place in the list was wanted. In the
+    /// first case it is listed, and each sector stays old.
+    fn write(&mut self, first: u64, bytes: &[u8]) -> Result<(), DiskFault>
+        requires whole { IsWhole (length bytes.now) }
+        requires inside { 512 * first + length bytes.now ≤ 512 * sectors_of self.old.image }
+        ensures named { Contains self.old.fails (Fail.Write (counted self.old.writes)) → IsErr result }
+        ensures ok { OnOk result (self.new ≡ after_write (Write first bytes.now) (overwritten self.old.image first bytes.now) self.old) }
+        ensures err { OnErr result (
+            (Contains self.old.fails (Fail.Write (counted self.old.writes)) × (self.new ≡ faulted_more (after_write (Write first bytes.now) self.old.image self.old)))
+            ⊎ (self.new ≡ starved_more (record self.old { writes = counted self.old.writes }))) }
+        ensures content { Writes first bytes.now result (Some self.old.image) (Some self.new.image) }
+        ensures cause { HasCause self.old.faults self.new.faults result }
+    {
+        self.writes = self.writes.saturating_add(1);
+        let Ok(kept) = Bytes::from_slice(*self.image.allocator(), bytes) else {
+            return Err(self.starve());
+        };
+        let call = DeviceCall::Write { first, bytes: kept };
+        if list(&self.image, &mut self.opening, &mut self.calls, call).is_err() {
+            return Err(self.starve());
+        }
+        if is_named(&self.fails, Fail::Write(self.writes)) {
+            self.faults = self.faults.saturating_add(1);
+            return Err(DiskFault);
+        }
+        let at = 512 * first as usize;
+        self.image[at..at + bytes.len()].copy_from_slice(bytes);
+        Ok(())
+    }
+
+    /// Fails exactly where the call was named, or memory for its place in the list was wanted.
+    fn flush(&mut self) -> Result<(), DiskFault>
+        ensures named { Contains self.old.fails (Fail.Flush (counted self.old.flushes)) → IsErr result }
+        ensures ok { OnOk result (self.new ≡ after_flush self.old) }
+        ensures err { OnErr result (
+            (Contains self.old.fails (Fail.Flush (counted self.old.flushes)) × (self.new ≡ faulted_more (record self.old { flushes = counted self.old.flushes })))
+            ⊎ (self.new ≡ starved_more (record self.old { flushes = counted self.old.flushes }))) }
+        ensures cause { HasCause self.old.faults self.new.faults result }
+    {
+        self.flushes = self.flushes.saturating_add(1);
+        if is_named(&self.fails, Fail::Flush(self.flushes)) {
+            self.faults = self.faults.saturating_add(1);
+            return Err(DiskFault);
+        }
+        if list(
+            &self.image,
+            &mut self.opening,
+            &mut self.calls,
+            DeviceCall::Flush,
+        )
+        .is_err()
+        {
+            return Err(self.starve());
+        }
+        Ok(())
+    }
+
+    ghost size = { λ d. refl };
+
+    ghost told = { λ d. (refl, refl) };
+}

@@ -1,0 +1,12 @@
+use Rattle.std.proofs.Common.{refl}
+use Rattle.lufs_base.specs.Fields.{number_in}
+use Rattle.volume_model.specs.Superblock.{super_of}
+use Rattle.volume_model.proofs.worked.superblocks.Goals as goal
+
+pub returns-clause-fits : goal.returns-clause-fits
+unfolding number_in super_of
+returns-clause-fits c = refl
+
+pub returns-clause-one_sector_short : goal.returns-clause-one_sector_short
+unfolding number_in super_of
+returns-clause-one_sector_short c = refl

@@ -1,0 +1,9 @@
+pub mod Image
+pub mod Record
+pub mod Superblock
+pub mod LogHeader
+pub mod LogRecord
+pub mod LogRun
+pub mod Log
+pub mod ScanText
+pub mod Worked

@@ -1,0 +1,33 @@
+-- What `scan` prints of a log.
+use Rattle.std.specs.Prelude.{ℕ, ◌+◌, List, [], ◌∷◌, ◌++◌, length, sum_by, codes}
+use Rattle.std.specs.List.{flat_map}
+use Rattle.std.specs.Fmt.{decimal}
+use Rattle.lufs_base.specs.Layout.{ring_of}
+use Rattle.lufs_base.specs.declared.geometry.Geometry.{Geometry}
+use Rattle.lufs_base.specs.declared.delta.Delta.{Delta}
+use Rattle.volume_model.specs.declared.log.Header.{Header}
+use Rattle.volume_model.specs.declared.log.Tx.{Tx}
+use Rattle.volume_model.specs.LogRecord.{logged_len}
+
+-- the bytes that the deltas of a transaction take in the log, with the 16 bytes at the head of each
+abbrev pub delta_bytes : List Delta → ℕ
+delta_bytes deltas = sum_by (λ d. 16 + logged_len d.kind d.len) deltas
+
+-- a word and a number behind it
+abbrev pub field : List ℕ → ℕ → List ℕ
+field word n = word ++ (32 ∷ decimal n)
+
+abbrev pub header_line : Geometry → Header → List ℕ
+header_line g h =
+    field (codes "epoch") h.epoch ++ (field (codes " head") h.head ++ (field (codes " tid") h.tid ++ (field (codes " ring") (ring_of g) ++ (10 ∷ []))))
+
+abbrev pub tx_line : Tx → List ℕ
+tx_line tx =
+    field (codes "tx") tx.tid ++ (field (codes " sectors") tx.sectors
+    ++ (field (codes " deltas") (length tx.deltas) ++ (field (codes " bytes") (delta_bytes tx.deltas) ++ (10 ∷ []))))
+
+abbrev pub summary_line : List Tx → List ℕ
+summary_line txs = field (codes "committed") (length txs) ++ (field (codes " sectors") (sum_by (λ tx. tx.sectors) txs) ++ (10 ∷ []))
+
+unfoldable pub scan_text : Geometry → Header → List Tx → List ℕ
+scan_text g h txs = header_line g h ++ (flat_map tx_line txs ++ summary_line txs)

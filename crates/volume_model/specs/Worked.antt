@@ -1,0 +1,62 @@
+-- Small logs, to compute the definitions on: the smallest volume, epoch 3, head 0, and transaction 1
+-- in ring place 0, which writes the root's inode record.
+use Rattle.std.specs.Prelude.{ℕ, ◌==◌, if◌then◌else◌, List, [], ◌∷◌, ◌++◌, replicate, take, codes}
+use Rattle.lufs_base.specs.Fields.{field_bytes}
+use Rattle.lufs_base.specs.declared.geometry.Geometry.{Geometry}
+use Rattle.lufs_base.specs.declared.delta.Delta.{Delta}
+use Rattle.lufs_base.specs.declared.delta.DeltaKind.TheVariants.{Inode}
+use Rattle.volume_model.specs.declared.log.Header.{Header}
+use Rattle.volume_model.specs.declared.log.Tx.{Tx}
+use Rattle.volume_model.specs.Log.{Log, log_with}
+
+-- one group of 64 blocks and 32 inodes, and a log of 256 sectors
+abbrev pub smallest : Geometry
+smallest = record { version = 1; groups = 1; bpg = 64; ipg = 32; log = 256 }
+
+abbrev pub superblock : List ℕ
+superblock =
+    field_bytes 4 0x00011954 ++ field_bytes 4 1 ++ field_bytes 4 1 ++ field_bytes 4 64 ++ field_bytes 4 32 ++ field_bytes 4 256 ++ field_bytes 4 99
+    ++ replicate 484 0
+
+abbrev pub header : Header
+header = record { epoch = 3; head = 0; tid = 1 }
+
+abbrev pub header_sector : List ℕ
+header_sector = field_bytes 4 0x4C554653 ++ field_bytes 4 3 ++ field_bytes 4 0 ++ field_bytes 4 1 ++ replicate 496 0
+
+-- the root's inode record: mode 700, two links
+abbrev pub root_record : List ℕ
+root_record = 0x41 ∷ 0xc0 ∷ 0 ∷ 2 ∷ replicate 124 0
+
+abbrev pub head_of : (home len type : ℕ) → List ℕ
+head_of home len type = field_bytes 8 home ++ field_bytes 4 len ++ field_bytes 4 type
+
+-- a sector of the log
+abbrev pub log_sector : (payload : List ℕ) → (tid ident : ℕ) → List ℕ
+log_sector payload tid ident = take 504 (payload ++ replicate 504 0) ++ field_bytes 4 tid ++ field_bytes 4 ident
+
+-- the root's record with this type, and what follows it
+abbrev pub root_delta : (type : ℕ) → List ℕ
+root_delta type = head_of 0x24100 128 type ++ root_record
+
+-- the first sector of a transaction that goes on: a chunk that the sector's payload cuts short
+abbrev pub cut_chunk : List ℕ
+cut_chunk = head_of 0x26000 512 3 ++ replicate 488 1
+
+abbrev pub commit : List ℕ
+commit = head_of 1 1 8
+
+-- the ring whose place 0 holds this sector, and zeros elsewhere
+abbrev pub ring_with : List ℕ → ℕ → List ℕ
+ring_with first place = if place == 0 then first else replicate 512 0
+
+abbrev pub log_of_sector : List ℕ → Log
+log_of_sector first = log_with smallest header_sector (ring_with first)
+
+abbrev pub root_tx : Tx
+root_tx = record {
+  tid = 1;
+  first = 0;
+  sectors = 1;
+  deltas = record { kind = Inode; home = 0x24100; len = 128; bytes = root_record } ∷ [];
+}

@@ -1,0 +1,10 @@
+use lufs_base::Bytes;
+
+/// A call of a disk that changes what a crash may leave.
+#[derive(Debug, Drop)]
+pub enum DeviceCall {
+    /// These bytes, whole sectors, were to be written from sector `first` on.
+    Write { first: u64, bytes: Bytes },
+    /// All that was written before is to be kept by a crash.
+    Flush,
+}
