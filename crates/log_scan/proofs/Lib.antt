@@ -1,3 +1,5 @@
 pub mod Tests
 pub mod SuperblockTests
 pub mod HeaderTests
+pub mod Order
+pub mod RunSteps

@@ -1,5 +1,5 @@
 -- What a superblock's test says, test by test.
-use Rattle.std.proofs.Common.{◌≡◌, ℕ, ◌*◌, ◌≤◌, true, List, drop, Option, Some, None, sym, arith}
+use Rattle.std.proofs.Common.{◌≡◌, ℕ, ◌*◌, ◌≤◌, true, List, drop, Some, None}
 use Rattle.std.proofs.lemmas.Bool.{and_parts, and_from, eqb-true, eq-eqb, leb-true, le-leb}
 use Rattle.lufs_base.specs.Fields.{u32_at}
 use Rattle.lufs_base.specs.Layout.{blocks_of}

@@ -1,5 +1,5 @@
 -- A value that is given exactly where a test passes.
-use Rattle.std.proofs.Common.{◌≡◌, Bool, true, false, cond, Option, Some, None, sym, refl, ◌∙◌, ap}
+use Rattle.std.proofs.Common.{◌≡◌, Bool, true, cond, Some, None, sym, ◌∙◌, ap}
 use Rattle.std.proofs.lemmas.Bool.{cond-true, cond-false, false_from_ne_true}
 
 pub refused : {X : Type 0} (test : Bool) (x : X) → (test ≡ true → ⊥) → None ≡ cond test (Some x) None

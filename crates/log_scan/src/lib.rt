@@ -3,9 +3,11 @@
 #![tactic(auto)]
 
 mod header;
+mod records;
 mod superblock;
 mod zeros;
 
 pub use header::{BadHeader, read_header};
+pub use records::{Run, RunError, read_run};
 pub use superblock::{NotVolume, read_super};
 pub use volume_model::{Header, Tx, TxList};
