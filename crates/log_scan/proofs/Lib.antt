@@ -3,3 +3,4 @@ pub mod SuperblockTests
 pub mod HeaderTests
 pub mod Order
 pub mod RunSteps
+pub mod RingSteps

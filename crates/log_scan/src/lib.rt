@@ -4,6 +4,7 @@
 
 mod header;
 mod records;
+mod runs;
 mod superblock;
 mod zeros;
 
