@@ -4,3 +4,4 @@ pub mod HeaderTests
 pub mod Order
 pub mod RunSteps
 pub mod RingSteps
+pub mod Listing

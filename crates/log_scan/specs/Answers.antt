@@ -1,10 +1,13 @@
 -- What the answers of this crate say. Want of memory and a fault of the disk say nothing of the log.
-use Rattle.std.specs.Prelude.{◌≡◌, ℕ, ◌+◌, ◌≤◌, List, Result, Ok, Err, true, length}
+use Rattle.std.specs.Prelude.{◌≡◌, ℕ, suc, ◌+◌, ◌≤◌, List, [], drop, Option, Some, None, Result, Ok, Err, true, length}
 use Rattle.std.specs.List.{list_all}
 use Rattle.lufs_base.specs.declared.geometry.Geometry.{Geometry}
 use Rattle.lufs_base.specs.declared.delta.Delta.{Delta}
 use Rattle.volume_model.specs.LogRecord.{logged_len, may_precede}
 use Rattle.volume_model.specs.LogRun.{Run, Short as short_run, Bad as bad_run, Whole as whole_run, Front as RecordFront, Logged as delta_front, Commit as commit_front, Cut as cut_front, Wrong as wrong_front}
+use Rattle.volume_model.specs.declared.log.Header.{Header}
+use Rattle.volume_model.specs.declared.log.Tx.{Tx}
+use Rattle.volume_model.specs.Log.{Log, NoHeader, Behind, Transactions, Listed, BadRun, with_tx, transactions_from}
 use Rattle.log_scan.specs.InOrder.{MayBeLogged}
 use Rattle.log_scan.specs.declared.records.Front.{Front}
 use Rattle.log_scan.specs.declared.records.Front.TheVariants.{Logged, Commit, Cut, Wrong}
@@ -12,6 +15,8 @@ use Rattle.log_scan.specs.declared.records.Run.{Run as ReadRun}
 use Rattle.log_scan.specs.declared.records.Run.TheVariants.{Whole, Short}
 use Rattle.log_scan.specs.declared.records.RunError.{RunError}
 use Rattle.log_scan.specs.declared.records.RunError.TheVariants.{Bad, Mem}
+use Rattle.log_scan.specs.declared.scan.ScanError.{ScanError}
+use Rattle.log_scan.specs.declared.scan.ScanError.TheVariants.{Disk, BadHeader, BadLog, Mem as no_memory}
 
 -- the answer tells what stands at the front of the bytes
 abbrev pub IsFront : RecordFront → Front → Type 0
@@ -31,6 +36,33 @@ LoggedIsNext g before bytes (Logged d) = IsNext g before bytes d
 LoggedIsNext g before bytes Commit = Unit {0}
 LoggedIsNext g before bytes Cut = Unit {0}
 LoggedIsNext g before bytes Wrong = Unit {0}
+
+-- the answer tells what stands at the front of the rest of the ring: a transaction, the end of the log,
+-- or a bad run
+abbrev pub IsTx : Geometry → Header → (tid at : ℕ) → List (List ℕ) → Result (Option Tx) ScanError → Type 0
+IsTx g h tid at rest (Ok (Some tx)) =
+    (more : ℕ) → transactions_from g h (suc more) tid at rest ≡ with_tx tx (transactions_from g h more (tid + 1) (at + tx.sectors) (drop tx.sectors rest))
+IsTx g h tid at rest (Ok None) = (more : ℕ) → transactions_from g h (suc more) tid at rest ≡ Listed []
+IsTx g h tid at rest (Err (BadLog bad place)) = (more : ℕ) → transactions_from g h (suc more) tid at rest ≡ BadRun bad place
+IsTx g h tid at rest (Err Disk) = ⊥
+IsTx g h tid at rest (Err BadHeader) = ⊥
+IsTx g h tid at rest (Err no_memory) = Unit {0}
+
+-- the answer tells the transactions
+abbrev pub IsListing : Transactions → Result (List Tx) ScanError → Type 0
+IsListing listing (Ok txs) = listing ≡ Listed txs
+IsListing listing (Err (BadLog tid place)) = listing ≡ BadRun tid place
+IsListing listing (Err Disk) = ⊥
+IsListing listing (Err BadHeader) = ⊥
+IsListing listing (Err no_memory) = Unit {0}
+
+-- the answer tells the log
+abbrev pub IsScan : Log → Result (Header × List Tx) ScanError → Type 0
+IsScan log (Ok found) = log ≡ Behind found.0 (Listed found.1)
+IsScan log (Err (BadLog tid place)) = (h : Header) × (log ≡ Behind h (BadRun tid place))
+IsScan log (Err BadHeader) = log ≡ NoHeader
+IsScan log (Err Disk) = Unit {0}
+IsScan log (Err no_memory) = Unit {0}
 
 -- the answer tells the run
 abbrev pub IsRun : Run → Result ReadRun RunError → Type 0
