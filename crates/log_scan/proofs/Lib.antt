@@ -5,3 +5,5 @@ pub mod Order
 pub mod RunSteps
 pub mod RingSteps
 pub mod Listing
+pub mod RingTurn
+pub mod LogTold

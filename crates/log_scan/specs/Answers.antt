@@ -15,8 +15,8 @@ use Rattle.log_scan.specs.declared.records.Run.{Run as ReadRun}
 use Rattle.log_scan.specs.declared.records.Run.TheVariants.{Whole, Short}
 use Rattle.log_scan.specs.declared.records.RunError.{RunError}
 use Rattle.log_scan.specs.declared.records.RunError.TheVariants.{Bad, Mem}
-use Rattle.log_scan.specs.declared.scan.ScanError.{ScanError}
-use Rattle.log_scan.specs.declared.scan.ScanError.TheVariants.{Disk, BadHeader, BadLog, Mem as no_memory}
+use Rattle.log_scan.specs.declared.log.ScanError.{ScanError}
+use Rattle.log_scan.specs.declared.log.ScanError.TheVariants.{Disk, BadHeader, BadLog, Mem as no_memory}
 
 -- the answer tells what stands at the front of the bytes
 abbrev pub IsFront : RecordFront → Front → Type 0
@@ -52,7 +52,7 @@ IsTx g h tid at rest (Err no_memory) = Unit {0}
 abbrev pub IsListing : Transactions → Result (List Tx) ScanError → Type 0
 IsListing listing (Ok txs) = listing ≡ Listed txs
 IsListing listing (Err (BadLog tid place)) = listing ≡ BadRun tid place
-IsListing listing (Err Disk) = ⊥
+IsListing listing (Err Disk) = Unit {0}
 IsListing listing (Err BadHeader) = ⊥
 IsListing listing (Err no_memory) = Unit {0}
 

@@ -3,14 +3,14 @@
 #![tactic(auto)]
 
 mod header;
+mod log;
 mod records;
 mod runs;
-mod scan;
 mod superblock;
 mod zeros;
 
 pub use header::{BadHeader, read_header};
+pub use log::{ScanError, scan};
 pub use records::{Run, RunError, read_run};
-pub use scan::ScanError;
 pub use superblock::{NotVolume, read_super};
 pub use volume_model::{Header, Tx, TxList};

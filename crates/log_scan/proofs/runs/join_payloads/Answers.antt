@@ -1,4 +1,4 @@
-use Rattle.std.proofs.Common.{arith, ap, ◌∙◌}
+use Rattle.std.proofs.Common.{arith, ◌∙◌}
 use Rattle.log_scan.proofs.RingSteps.{payload_more}
 use Rattle.log_scan.proofs.runs.join_payloads.Goals as goal
 

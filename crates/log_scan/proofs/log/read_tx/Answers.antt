@@ -1,10 +1,9 @@
-use Rattle.std.proofs.Common.{◌≡◌, ℕ, ◌+◌, ◌*◌, ◌<◌, ◌≤◌, List, [], length, take, drop, refl, sym, ap, ◌∙◌, arith}
-use Rattle.std.proofs.lemmas.List.{nil_from_length}
-use Rattle.volume_model.specs.LogRun.{Run, Whole, Short, Bad, run_of}
+use Rattle.std.proofs.Common.{ℕ, ◌+◌, drop, sym, ap, ◌∙◌, arith}
+use Rattle.volume_model.specs.LogRun.{Whole, Short, Bad}
 use Rattle.volume_model.specs.Log.{BadRun, with_tx, transactions_from}
 use Rattle.log_scan.specs.Ring.{sectors_in}
 use Rattle.log_scan.proofs.Listing.{by_run, whole_has_sectors}
-use Rattle.log_scan.proofs.scan.read_tx.Goals as goal
+use Rattle.log_scan.proofs.log.read_tx.Goals as goal
 
 pub returns-in-Ok-Whole-clause-value : goal.returns-in-Ok-Whole-clause-value
 returns-in-Ok-Whole-clause-value c =

@@ -3,7 +3,7 @@ use Rattle.lufs_base.specs.Layout.{ring_of}
 use Rattle.volume_model.specs.Log.{transactions_from}
 use Rattle.log_scan.specs.Ring.{sectors_in}
 use Rattle.log_scan.proofs.Listing.{with_front}
-use Rattle.log_scan.proofs.scan.transactions.Given as goal
+use Rattle.log_scan.proofs.log.transactions.Given as goal
 
 -- the transactions so far, and those behind them, are the log's
 abbrev pub invariant-loop-txs : goal.invariant-loop-txs

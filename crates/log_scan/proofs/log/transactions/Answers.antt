@@ -1,4 +1,4 @@
-use Rattle.std.proofs.Common.{◌≡◌, ◌+◌, ◌-◌, ◌*◌, ◌^◌, ◌<◌, ◌≤◌, suc, List, [], ◌∷◌, ◌++◌, length, drop, refl, sym, ap, ◌∙◌, arith}
+use Rattle.std.proofs.Common.{◌+◌, ◌-◌, ◌^◌, ◌≤◌, suc, List, length, drop, sym, ap, ◌∙◌, arith}
 use Rattle.std.proofs.lemmas.List.{append-nil}
 use Rattle.lufs_base.specs.Fields.{AreBytes}
 use Rattle.lufs_base.specs.Layout.{ring_of}
@@ -6,11 +6,11 @@ use Rattle.volume_model.specs.declared.log.Tx.{Tx}
 use Rattle.volume_model.specs.Log.{Transactions, Listed, transactions_from}
 use Rattle.log_scan.specs.Ring.{sectors_in}
 use Rattle.log_scan.proofs.Listing.{with_front, listing_more, no_number_above, sectors_have_bytes}
-use Rattle.log_scan.proofs.scan.transactions.Goals as goal
+use Rattle.log_scan.proofs.log.transactions.Goals as goal
 
 -- the next number would be above those of 32 bits
-pub returns-in_default-checked_add : goal.returns-in_default-checked_add
-returns-in_default-checked_add c =
+pub returns-in_default-checked_add-clause-value : goal.returns-in_default-checked_add-clause-value
+returns-in_default-checked_add-clause-value c =
     let g = c.args.g.now in
     let h = c.args.header.now in
     let l = c.loop-txs in
