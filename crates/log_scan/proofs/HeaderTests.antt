@@ -7,7 +7,7 @@ use Rattle.lufs_base.specs.declared.geometry.Geometry.{Geometry}
 use Rattle.volume_model.specs.declared.log.Header.{Header}
 use Rattle.volume_model.specs.Image.{are_zeros}
 use Rattle.volume_model.specs.LogHeader.{named_header, is_header, header_of}
-use Rattle.log_scan.proofs.Tests.{refused, given}
+use Rattle.log_scan.proofs.TestedValue.{refused, given}
 
 pub record IsHeader (g : Geometry) (s : List ℕ) : Type 0 where
   pub magic : u32_at s 0 ≡ 0x4C554653

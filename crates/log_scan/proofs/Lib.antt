@@ -1,4 +1,4 @@
-pub mod Tests
+pub mod TestedValue
 pub mod SuperblockTests
 pub mod HeaderTests
 pub mod Order

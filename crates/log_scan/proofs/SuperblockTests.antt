@@ -6,7 +6,7 @@ use Rattle.lufs_base.specs.Layout.{blocks_of}
 use Rattle.lufs_base.specs.declared.geometry.Geometry.{Geometry}
 use Rattle.volume_model.specs.Image.{are_zeros}
 use Rattle.volume_model.specs.Superblock.{is_geometry, named_geometry, is_super, super_of}
-use Rattle.log_scan.proofs.Tests.{refused, given}
+use Rattle.log_scan.proofs.TestedValue.{refused, given}
 
 pub record IsSuper (s : List ℕ) (sectors : ℕ) : Type 0 where
   pub magic : u32_at s 0 ≡ 0x00011954

@@ -14,3 +14,6 @@ pub use log::{ScanError, scan};
 pub use records::{Run, RunError, read_run};
 pub use superblock::{NotVolume, read_super};
 pub use volume_model::{Header, Tx, TxList};
+
+#[cfg(test)]
+mod tests;
