@@ -1,0 +1,5 @@
+pub mod Outside
+pub mod MemSink
+pub mod Named
+pub mod MemHost
+pub mod Words
