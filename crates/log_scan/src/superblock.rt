@@ -1,6 +1,6 @@
-ghost use Rattle.std.specs.Prelude.{◌≡◌, ◌<◌, length, IfOk, IsTrue};
+ghost use Rattle.std.specs.Prelude.{◌≡◌, ◌<◌, ◌≤◌, ◌*◌, length, IfOk, IsTrue};
 ghost use Rattle.std.specs.Result.{result_ok};
-ghost use Rattle.lufs_base.specs.Layout.{IsGeometry};
+ghost use Rattle.lufs_base.specs.Layout.{IsGeometry, blocks_of};
 ghost use Rattle.volume_model.specs.Superblock.{super_of, is_geometry, is_step};
 
 use crate::zeros::are_zeros;
@@ -39,6 +39,7 @@ pub fn read_super(sector: &[u8], sectors: u64) -> Result<Geometry, NotVolume>
     requires { length sector.now ≡ 512 }
     ensures value { result_ok result ≡ super_of sector.now sectors }
     ensures in_range { IfOk result IsGeometry }
+    ensures fits { IfOk result (λ g. 8 * blocks_of g ≤ sectors) }
 {
     let g = Geometry {
         version: get_u32(sector, 4),

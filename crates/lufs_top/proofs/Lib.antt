@@ -1,1 +1,4 @@
 pub mod NamedLemmas
+pub mod Content
+pub mod Statuses
+pub mod AskOrder

@@ -3,3 +3,5 @@ pub mod MemSink
 pub mod Named
 pub mod MemHost
 pub mod Words
+pub mod Ending
+pub mod Run

@@ -1,5 +1,6 @@
 -- The words of a command.
-use Rattle.std.specs.Prelude.{Bool, not, ◌&&◌, if◌then◌else◌, ℕ, List, [], ◌∷◌, Option, Some, None, bytes_eq, codes}
+use Rattle.std.specs.Prelude.{not, ◌&&◌, if◌then◌else◌, ℕ, List, [], ◌∷◌, map, Option, Some, None, bytes_eq, codes, String, string_bytes}
+use Rattle.std.specs.declared.alloc.Global.{Global}
 
 -- the name of standard output, which names no volume
 abbrev pub standard_output : List ℕ
@@ -9,3 +10,7 @@ standard_output = codes "-"
 abbrev pub scan_name : List (List ℕ) → Option (List ℕ)
 scan_name (command ∷ name ∷ []) = if bytes_eq command (codes "scan") && not (bytes_eq name standard_output) then Some name else None
 scan_name words = None
+
+-- the same of the words as they are handed in
+abbrev pub volume_of : List (String Global) → Option (List ℕ)
+volume_of words = scan_name (map string_bytes words)

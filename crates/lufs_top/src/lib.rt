@@ -1,6 +1,13 @@
 //! The top call of the program: `run`, over a host that stands for the outside.
 #![tactic(auto)]
 
+mod command;
+mod ending;
 pub mod host;
+mod report;
 mod text;
+mod top;
+mod volume;
 mod words;
+
+pub use top::run;
