@@ -54,8 +54,7 @@ pub fn put_u64(out: &mut [u8], at: usize, value: u64)
     BigEndian::write_u64(&mut out[at..], value);
 }
 
-/// Two fields of one width with the same number have the same bytes, and a number reads back from
-/// the bytes that are written for it.
+/// Two fields of one width with the same number have the same bytes.
 pub fn one_spelling()
     ensures { (n : ℕ) (xs ys : List ℕ) → AreBytes xs → AreBytes ys → n ≤ length xs → n ≤ length ys
         → number_in n xs ≡ number_in n ys → take n xs ≡ take n ys }

@@ -10,6 +10,6 @@ pub struct Ino(pub u32);
 #[derive(Clone, Copy, Debug, PartialEq, Eq, PartialOrd, Ord, Hash)]
 pub struct Tid(pub u32);
 
-/// How often the volume was mounted, from 1 when it was made. Each log sector names its epoch.
+/// The epoch of a volume: 1 when it was made, and one more at each mount. Each log sector names it.
 #[derive(Clone, Copy, Debug, PartialEq, Eq, PartialOrd, Ord, Hash)]
 pub struct Epoch(pub u32);

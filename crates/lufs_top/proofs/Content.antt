@@ -1,12 +1,15 @@
 -- What was read of a disk, where the disk tells its content.
 use Rattle.std.proofs.Common.{◌≡◌, ℕ, ◌+◌, ◌*◌, ◌/◌, ◌≤◌, Bool, true, false, cond, List, length, Option, Some, None, Result, Ok, Err, refl, sym, ◌∙◌, ap, arith}
-use Rattle.std.specs.Prelude.{IfSome, OnOk, is_ok}
+use Rattle.std.specs.Prelude.{IfSome, OnOk, is_ok, option_and_then}
 use Rattle.std.specs.Result.{result_ok}
 use Rattle.std.proofs.lemmas.Bool.{and_parts, leb-true, cond-false, false_from_ne_true, false≢true}
 use Rattle.lufs_base.specs.Layout.{blocks_of}
 use Rattle.lufs_base.specs.declared.geometry.Geometry.{Geometry}
 use Rattle.volume_model.specs.Image.{Image, sectors_of, sectors_from, sector}
-use Rattle.volume_model.specs.Log.{log_of}
+use Rattle.volume_model.specs.declared.log.Header.{Header}
+use Rattle.volume_model.specs.declared.log.Tx.{Tx}
+use Rattle.volume_model.specs.ScanText.{scan_text, text_of_log, scan_text_of}
+use Rattle.volume_model.specs.Log.{Behind, Listed, log_of}
 use Rattle.log_scan.specs.Answers.{IsScan}
 use Rattle.log_scan.specs.declared.log.ScanError.{ScanError}
 use Rattle.log_scan.specs.declared.log.ScanError.TheVariants as scans
@@ -62,3 +65,9 @@ error_ending scans.Disk image g geometry log = tt
 error_ending scans.BadHeader image g geometry log = (g, geometry, log)
 error_ending (scans.BadLog tid place) image g geometry log = (g, log.0, geometry, log.1)
 error_ending scans.Mem image g geometry log = tt
+
+-- the text of a log that was read is that of the image
+pub listing : (image : Image) (g : Geometry) (h : Header) (txs : List Tx) → geometry_of image ≡ Some g → log_of g image ≡ Behind h (Listed txs) → scan_text_of image ≡ Some (scan_text g h txs)
+unfolding scan_text_of
+listing image g h txs geometry read =
+    ap (option_and_then (λ (k : Geometry). text_of_log k (log_of k image))) geometry ∙ ap (text_of_log g) read

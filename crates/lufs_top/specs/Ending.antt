@@ -3,11 +3,10 @@ use Rattle.std.specs.Prelude.{◌≡◌, ℕ, List, [], ◌∷◌, ◌++◌, Som
 use Rattle.std.specs.Fmt.{decimal}
 use Rattle.lufs_base.specs.declared.geometry.Geometry.{Geometry}
 use Rattle.volume_model.specs.declared.log.Header.{Header}
-use Rattle.volume_model.specs.declared.log.Tx.{Tx}
 use Rattle.volume_model.specs.Image.{Image}
 use Rattle.volume_model.specs.Superblock.{geometry_of}
-use Rattle.volume_model.specs.Log.{NoHeader, Behind, Listed, BadRun as LogBadRun, log_of}
-use Rattle.volume_model.specs.ScanText.{scan_text}
+use Rattle.volume_model.specs.Log.{NoHeader, Behind, BadRun as LogBadRun, log_of}
+use Rattle.volume_model.specs.ScanText.{scan_text_of}
 use Rattle.log_scan.specs.declared.log.ScanError.{ScanError}
 use Rattle.log_scan.specs.declared.log.ScanError.TheVariants as scans
 use Rattle.lufs_top.specs.declared.ending.Ending.{Ending}
@@ -47,8 +46,7 @@ ending_of_error scans.Mem = NoMemory
 
 -- What an ending of `scan` says of the image that was read. A fault and want of memory say nothing.
 abbrev pub IsEndingOf : Image → Ending → Type 0
-IsEndingOf image (Done text) = (g : Geometry) × (h : Header) × (txs : List Tx)
-    × (geometry_of image ≡ Some g) × (log_of g image ≡ Behind h (Listed txs)) × (string_bytes text ≡ scan_text g h txs)
+IsEndingOf image (Done text) = scan_text_of image ≡ Some (string_bytes text)
 IsEndingOf image Usage = Unit {0}
 IsEndingOf image Missing = Unit {0}
 IsEndingOf image DiskFault = Unit {0}

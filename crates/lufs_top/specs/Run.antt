@@ -1,12 +1,12 @@
 -- What a run of `scan` does to the outside.
-use Rattle.std.specs.Prelude.{◌≡◌, ◌≢◌, ◌⊎◌, ◌<◌, ◌≤◌, ℕ, unwrap_or, List, [], ◌∷◌, ◌++◌, take, Option, Some, None, IfSome, option_and_then, option_map}
+use Rattle.std.specs.Prelude.{◌≡◌, ◌≢◌, ◌⊎◌, ◌<◌, ◌≤◌, ℕ, unwrap_or, List, [], ◌∷◌, ◌++◌, take, Option, Some, None, IsSome, IfSome, option_and_then, option_map}
 use Rattle.lufs_base.specs.Causes.{Rose}
 use Rattle.volume_model.specs.Image.{Image}
 use Rattle.lufs_base.specs.declared.geometry.Geometry.{Geometry}
 use Rattle.volume_model.specs.declared.log.Header.{Header}
-use Rattle.volume_model.specs.declared.log.Tx.{Tx}
 use Rattle.volume_model.specs.Superblock.{geometry_of}
-use Rattle.volume_model.specs.Log.{NoHeader, Behind, Listed, BadRun as LogBadRun, log_of}
+use Rattle.volume_model.specs.Log.{NoHeader, Behind, BadRun as LogBadRun, log_of}
+use Rattle.volume_model.specs.ScanText.{scan_text_of}
 use Rattle.volume_model.specs.Record.{Record}
 use Rattle.lufs_top.specs.declared.host.Ask.{Ask}
 use Rattle.lufs_top.specs.declared.host.AskAnswer.{AskAnswer}
@@ -80,9 +80,9 @@ sink_ask answer = record { kind = TakeSink; name = standard_output; answer = ans
 abbrev pub disk_ask : List ℕ → AskAnswer → Ask
 disk_ask name answer = record { kind = TakeDisk; name = name; answer = answer }
 
--- the volume holds a log, which is listed
+-- the image is a volume with a log that is not bad
 abbrev pub IsListed : Image → Type 0
-IsListed image = (g : Geometry) × (h : Header) × (txs : List Tx) × (geometry_of image ≡ Some g) × (log_of g image ≡ Behind h (Listed txs))
+IsListed image = IsSome (scan_text_of image)
 
 -- the volume has no log header, or a run of its log is bad
 abbrev pub IsBadLog : Image → Type 0

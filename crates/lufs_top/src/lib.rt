@@ -10,4 +10,5 @@ mod top;
 mod volume;
 mod words;
 
+pub use report::NO_MEMORY;
 pub use top::run;

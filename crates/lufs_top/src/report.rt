@@ -10,7 +10,7 @@ use std::alloc::Global;
 pub(crate) const REPLY_FAULT: u8 = 5;
 
 /// The status of want of memory.
-pub(crate) const NO_MEMORY: u8 = 12;
+pub const NO_MEMORY: u8 = 12;
 
 // Puts the text, and answers the status, or where the put failed in place of success that it failed.
 fn put_text<K: Sink>(out: &mut K, text: &[u8], status: u8) -> u8

@@ -1,5 +1,5 @@
 -- What `scan` prints of a log.
-use Rattle.std.specs.Prelude.{ℕ, ◌+◌, List, [], ◌∷◌, ◌++◌, length, sum_by, codes}
+use Rattle.std.specs.Prelude.{ℕ, ◌+◌, List, [], ◌∷◌, ◌++◌, length, sum_by, codes, Option, Some, None, option_and_then}
 use Rattle.std.specs.List.{flat_map}
 use Rattle.std.specs.Fmt.{decimal}
 use Rattle.lufs_base.specs.Layout.{ring_of}
@@ -7,7 +7,10 @@ use Rattle.lufs_base.specs.declared.geometry.Geometry.{Geometry}
 use Rattle.lufs_base.specs.declared.delta.Delta.{Delta}
 use Rattle.volume_model.specs.declared.log.Header.{Header}
 use Rattle.volume_model.specs.declared.log.Tx.{Tx}
+use Rattle.volume_model.specs.Image.{Image}
+use Rattle.volume_model.specs.Superblock.{geometry_of}
 use Rattle.volume_model.specs.LogRecord.{logged_len}
+use Rattle.volume_model.specs.Log.{Log, NoHeader, Behind, Listed, BadRun, log_of}
 
 -- the bytes that the deltas of a transaction take in the log, with the 16 bytes at the head of each
 abbrev pub delta_bytes : List Delta → ℕ
@@ -29,5 +32,15 @@ tx_line tx =
 abbrev pub summary_line : List Tx → List ℕ
 summary_line txs = field (codes "committed") (length txs) ++ (field (codes " sectors") (sum_by (λ tx. tx.sectors) txs) ++ (10 ∷ []))
 
+-- what is printed of a log with this header and these transactions
 unfoldable pub scan_text : Geometry → Header → List Tx → List ℕ
 scan_text g h txs = header_line g h ++ (flat_map tx_line txs ++ summary_line txs)
+
+abbrev pub text_of_log : Geometry → Log → Option (List ℕ)
+text_of_log g NoHeader = None
+text_of_log g (Behind h (Listed txs)) = Some (scan_text g h txs)
+text_of_log g (Behind h (BadRun tid place)) = None
+
+-- what `scan` prints of an image, if it is a volume with a log that is not bad
+unfoldable pub scan_text_of : Image → Option (List ℕ)
+scan_text_of image = option_and_then (λ g. text_of_log g (log_of g image)) (geometry_of image)

@@ -8,4 +8,4 @@ mod worked;
 
 pub use device_call::DeviceCall;
 pub use log::{Header, Tx, TxList};
-pub use worked::{logs, superblocks};
+pub use worked::{logs, superblocks, texts};

@@ -21,3 +21,10 @@ pub fn logs()
     ensures no_commit { log_of_sector (log_sector cut_chunk 1 3) ≡ Behind header (Listed []) }
     ensures zeros_for_commit { log_of_sector (log_sector (root_delta 2) 1 3) ≡ Behind header (BadRun 1 0) }
 {}
+
+/// What `scan` prints of an empty log, and of one with one transaction.
+pub fn texts()
+    ensures empty { scan_text smallest header [] ≡ codes "epoch 3 head 0 tid 1 ring 255\ncommitted 0 sectors 0\n" }
+    ensures committed { scan_text smallest header (root_tx ∷ [])
+        ≡ codes "epoch 3 head 0 tid 1 ring 255\ntx 1 sectors 1 deltas 1 bytes 144\ncommitted 1 sectors 1\n" }
+{}
