@@ -90,7 +90,7 @@ for case in "${cases[@]}"; do
     fi
 done
 
-# In each round every case once, so that other work on the machine meets all of them alike.
+# In each round every case once, so that other work on the machine slows all of them.
 for ((round = 0; round < rounds; round++)); do
     for case in "${cases[@]}"; do
         timed "$lufs" scan "$folder/$case"

@@ -1,5 +1,6 @@
 #!/usr/bin/env bash
-# Makes the smallest volume in a file, and lists the transactions of its log, which has none yet.
+# Makes the smallest volume in a file, and lists the transactions of its log, which has none yet. The
+# last lines that it prints are `epoch 1 head 0 tid 1 ring 255` and `committed 0 sectors 0`.
 set -eu
 
 # Prints a command, and runs it.
