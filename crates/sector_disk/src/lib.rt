@@ -8,3 +8,6 @@ pub use disk::Disk;
 pub use lufs_base::DiskFault;
 pub use mem_disk::{Fail, MemDisk};
 pub use volume_model::DeviceCall;
+
+#[cfg(test)]
+mod tests;

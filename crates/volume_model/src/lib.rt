@@ -9,3 +9,6 @@ mod worked;
 pub use device_call::DeviceCall;
 pub use log::{Header, Tx, TxList};
 pub use worked::{logs, superblocks, texts};
+
+#[cfg(test)]
+mod tests;
