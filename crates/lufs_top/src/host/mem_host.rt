@@ -2,9 +2,10 @@ ghost use Rattle.std.specs.Prelude.{◌≡◌, ◌≢◌, ◌<◌, ◌∷◌, �
 ghost use Rattle.std.specs.Option.{option_copied, option_map};
 ghost use Rattle.lufs_base.specs.Causes.{counted};
 ghost use Rattle.lufs_top.specs.Named.{held_at, lent_at};
-ghost use Rattle.lufs_top.specs.declared.host.HostError.TheVariants.{Mem};
+ghost use Rattle.lufs_top.specs.declared.host.HostError.TheVariants.{Mem, Failed};
 
 use super::named::{Named, find, give_back, lend, lend_new};
+use super::mem_sink::is_named;
 use super::{Ask, AskAnswer, AskKind, Host, HostError, MemSink};
 use lufs_base::{Bytes, Mem};
 use sector_disk::MemDisk;
@@ -40,11 +41,13 @@ impl From<Mem> for HostError {
 }
 
 impl MemHost {
-    ghost use Rattle.std.specs.Prelude.{vec_len, vec_capacity};
-    ghost use Rattle.lufs_top.specs.MemHost.{IsSameHost};
+    ghost use Rattle.std.specs.Prelude.{vec_len, vec_capacity, Some, is_ok, if◌then◌else◌, ℕ, List};
+    ghost use Rattle.lufs_top.specs.MemHost.{disk_of, sink_of, fails_of, put_fails_of, takes_of, IsNew, SameButDisks, SameHoldings, IsSameHost};
 
     /// A host that holds nothing.
-    pub fn new(alloc: Global) -> Self {
+    pub fn new(alloc: Global) -> Self
+        ensures { IsNew result }
+    {
         MemHost {
             alloc,
             disks: Vec::new(alloc),
@@ -59,20 +62,33 @@ impl MemHost {
     }
 
     /// Holds the disk under the name, in place of an older one. An `Err` changes nothing.
-    pub fn add_disk(&mut self, name: &str, disk: MemDisk) -> Result<(), Mem> {
+    pub fn add_disk(&mut self, name: &str, disk: MemDisk) -> Result<(), Mem>
+        ensures ok { OnOk result (disk_of self.new name.now ≡ Some disk) }
+        ensures others { (q : List ℕ) → q ≢ name.now → disk_of self.new q ≡ disk_of self.old q }
+        ensures err { OnErr result (disk_of self.new ≡ disk_of self.old) }
+        ensures rest { SameButDisks self.old self.new }
+    {
         lend_new(self.alloc, &mut self.disks, name.as_bytes())?;
         give_back(&mut self.disks, name.as_bytes(), disk);
         Ok(())
     }
 
     /// The k-th call that takes something, from 1, is to fail.
-    pub fn fail_host(&mut self, k: u64) -> Result<(), Mem> {
+    pub fn fail_host(&mut self, k: u64) -> Result<(), Mem>
+        ensures fails { fails_of self.new ≡ (if is_ok result then fails_of self.old ++ k ∷ [] else fails_of self.old) }
+        ensures puts { put_fails_of self.new ≡ put_fails_of self.old }
+        ensures rest { SameHoldings self.old self.new }
+    {
         self.fails.push(k)?;
         Ok(())
     }
 
     /// The k-th put, from 1, of the sink of that name is to fail, from its next take on.
-    pub fn fail_put(&mut self, name: &str, k: u64) -> Result<(), Mem> {
+    pub fn fail_put(&mut self, name: &str, k: u64) -> Result<(), Mem>
+        ensures puts { put_fails_of self.new ≡ (if is_ok result then put_fails_of self.old ++ (name.now, k) ∷ [] else put_fails_of self.old) }
+        ensures fails { fails_of self.new ≡ fails_of self.old }
+        ensures rest { SameHoldings self.old self.new }
+    {
         let sink = Bytes::from_slice(self.alloc, name.as_bytes())?;
         self.put_fails.push(PutFail { sink, k })?;
         Ok(())
@@ -83,15 +99,11 @@ impl MemHost {
         ensures name { IfOk result (λ kept. kept ≡ name.now) }
         ensures room { OnOk result (vec_len self.new.asks < vec_capacity self.new.asks) }
         ensures same { IsSameHost self.old self.new }
+        ensures takes { takes_of self.new ≡ counted (takes_of self.old) }
     {
         self.takes = self.takes.saturating_add(1);
         self.asks.reserve(1)?;
         Bytes::from_slice(self.alloc, name.as_bytes())
-    }
-
-    // Whether the present take is to fail.
-    fn is_to_fail(&self) -> bool {
-        self.fails.contains(&self.takes)
     }
 
     // Lists an answer, for which there is room.
@@ -115,20 +127,28 @@ impl MemHost {
     }
 
     /// The bytes of the sink of that name, if there is one that isn't lent.
-    pub fn sink(&self, name: &str) -> Option<&[u8]> {
+    pub fn sink(&self, name: &str) -> Option<&[u8]>
+        ensures { option_copied result ≡ option_map (λ k. k.bytes) (sink_of self.now name.now) }
+    {
         Some(find(&self.sinks, name.as_bytes())?.bytes())
     }
 
     /// The disk of that name, if there is one that isn't lent.
-    pub fn disk(&self, name: &str) -> Option<&MemDisk> {
+    pub fn disk(&self, name: &str) -> Option<&MemDisk>
+        ensures { option_copied result ≡ disk_of self.now name.now }
+    {
         find(&self.disks, name.as_bytes())
     }
 }
 
 impl Host for MemHost {
-    ghost use Rattle.std.specs.Prelude.{true, Some};
+    ghost use Rattle.std.specs.Prelude.{true, None, Some, Err, IfSome, IsSome, ℕ, List};
+    ghost use Rattle.lufs_top.specs.Outside.{HasHostCause, IsAsked};
+    ghost use Rattle.lufs_top.specs.declared.host.AskKind.TheVariants.{TakeDisk, TakeSink};
+    ghost use Rattle.lufs_top.specs.declared.host.HostError.TheVariants.{Missing};
     ghost use Rattle.std.proofs.Common.{rules};
     ghost use Rattle.lufs_top.specs.Named.{held_at, lent_at};
+    ghost use Rattle.lufs_top.specs.MemHost.{fails_of, takes_of, FailedOrMem};
 
     type D = MemDisk;
 
@@ -158,9 +178,22 @@ impl Host for MemHost {
         self.absent
     }
 
-    fn take_disk(&mut self, name: &str) -> Result<MemDisk, HostError> {
+    /// Fails exactly where the take was named.
+    fn take_disk(&mut self, name: &str) -> Result<MemDisk, HostError>
+        ensures named { Contains (fails_of self.old) (counted (takes_of self.old)) → FailedOrMem result }
+        ensures only_named { result ≡ Err Failed → Contains (fails_of self.old) (counted (takes_of self.old)) }
+        ensures value { IfSome (held_at self.old.disks.items name.now) (λ disk. IfOk result (λ d. d ≡ disk)) }
+        ensures held { OnOk result (IsTrue true → IsSome (held_at self.old.disks.items name.now)) }
+        ensures missing { result ≡ Err Missing → held_at self.old.disks.items name.now ≡ None }
+        ensures lent { OnOk result (IsTrue (lent_at self.new.disks.items name.now)) }
+        ensures other_disks { (q : List ℕ) → q ≢ name.now → (held_at self.new.disks.items q ≡ held_at self.old.disks.items q) × (lent_at self.new.disks.items q ≡ lent_at self.old.disks.items q) }
+        ensures sinks { self.new.sinks ≡ self.old.sinks }
+        ensures err { OnErr result ((held_at self.new.disks.items ≡ held_at self.old.disks.items) × (lent_at self.new.disks.items ≡ lent_at self.old.disks.items)) }
+        ensures asks { IsAsked TakeDisk name.now result (Some self.old.asks.items) (Some self.new.asks.items) }
+        ensures cause { HasHostCause self.old.faults self.new.faults self.old.absent self.new.absent result }
+    {
         let kept = self.begin(name)?;
-        if self.is_to_fail() {
+        if is_named(&self.fails, self.takes) {
             self.faults = self.faults.saturating_add(1);
             self.list(AskKind::TakeDisk, kept, AskAnswer::Failed);
             return Err(HostError::Failed);
@@ -178,9 +211,22 @@ impl Host for MemHost {
         give_back(&mut self.disks, name.as_bytes(), disk);
     }
 
-    fn take_sink(&mut self, name: &str) -> Result<MemSink, HostError> {
+    /// Fails exactly where the take was named.
+    fn take_sink(&mut self, name: &str) -> Result<MemSink, HostError>
+        ensures named { Contains (fails_of self.old) (counted (takes_of self.old)) → FailedOrMem result }
+        ensures only_named { result ≡ Err Failed → Contains (fails_of self.old) (counted (takes_of self.old)) }
+        ensures empty { IsTrue true → IfOk result (λ k. Some k.bytes ≡ Some []) }
+        ensures fresh { IsTrue true → IfOk result (λ k. k.faults ≡ 0) }
+        ensures not_missing { result ≢ Err Missing }
+        ensures lent { OnOk result (IsTrue (lent_at self.new.sinks.items name.now)) }
+        ensures other_sinks { (q : List ℕ) → q ≢ name.now → (held_at self.new.sinks.items q ≡ held_at self.old.sinks.items q) × (lent_at self.new.sinks.items q ≡ lent_at self.old.sinks.items q) }
+        ensures disks { self.new.disks ≡ self.old.disks }
+        ensures err { OnErr result ((held_at self.new.sinks.items ≡ held_at self.old.sinks.items) × (lent_at self.new.sinks.items ≡ lent_at self.old.sinks.items)) }
+        ensures asks { IsAsked TakeSink name.now result (Some self.old.asks.items) (Some self.new.asks.items) }
+        ensures cause { HasHostCause self.old.faults self.new.faults self.old.absent self.new.absent result }
+    {
         let kept = self.begin(name)?;
-        if self.is_to_fail() {
+        if is_named(&self.fails, self.takes) {
             self.faults = self.faults.saturating_add(1);
             self.list(AskKind::TakeSink, kept, AskAnswer::Failed);
             return Err(HostError::Failed);

@@ -54,7 +54,7 @@ impl MemSink {
 }
 
 // Whether the call is among those that are to fail.
-fn is_named(fails: &[u64], call: u64) -> bool
+pub(super) fn is_named(fails: &[u64], call: u64) -> bool
     ensures { IsTrue result ↔ Contains fails.now call }
 {
     fails.contains(&call)
