@@ -1,6 +1,6 @@
 -- The asks of a run are those that its order names.
-use Rattle.std.proofs.Common.{◌≡◌, ◌≢◌, ◌⊎◌, ◌<◌, ℕ, List, [], ◌∷◌, ◌++◌, Option, Some, None, Err, refl, sym, ◌∙◌, ap, subst, inl, inr, arith, append_assoc}
-use Rattle.std.specs.Prelude.{option_map, IfSome}
+use Rattle.std.proofs.Common.{◌≡◌, ◌≢◌, ◌⊎◌, ◌<◌, ℕ, List, [], ◌∷◌, ◌++◌, Option, Some, None, Err, refl, sym, ◌∙◌, ap, inl, inr, arith, append_assoc}
+use Rattle.std.specs.Prelude.{option_map}
 use Rattle.lufs_top.specs.declared.host.Ask.{Ask}
 use Rattle.lufs_top.specs.declared.host.AskAnswer.{AskAnswer}
 use Rattle.lufs_top.specs.declared.host.AskAnswer.TheVariants as answers
@@ -9,11 +9,11 @@ use Rattle.std.proofs.lemmas.List.{append-nil}
 use Rattle.lufs_top.specs.declared.host.HostError.{HostError}
 use Rattle.lufs_top.specs.declared.host.HostError.TheVariants.{Missing as HostMissing, Failed, Mem}
 use Rattle.lufs_top.specs.declared.ending.Ending.{Ending}
-use Rattle.lufs_top.specs.declared.ending.Ending.TheVariants.{Usage, Missing, DiskFault, NoMemory}
+use Rattle.lufs_top.specs.declared.ending.Ending.TheVariants.{Usage}
 use Rattle.lufs_top.specs.Ending.{status_of}
 use Rattle.lufs_top.specs.Outside.{asks_with, IsAsked}
 use Rattle.lufs_top.specs.Words.{standard_output}
-use Rattle.lufs_top.specs.Run.{AsksVolume, AsksDisk, FitsDiskAnswer, RunAsks, nothing, sink_failed, no_volume, no_answer, missing, failed, given, AsksInOrder, sink_ask, disk_ask}
+use Rattle.lufs_top.specs.Run.{AsksVolume, FitsDiskAnswer, RunAsks, nothing, sink_failed, no_volume, no_answer, missing, failed, given, AsksInOrder, sink_ask, disk_ask}
 use Rattle.lufs_top.proofs.Statuses.{Fits, ending_1, ending_2}
 
 -- an ending of one status ends a run with it, or with want of memory

@@ -1,7 +1,6 @@
 -- What was read of a disk, where the disk tells its content.
-use Rattle.std.proofs.Common.{◌≡◌, ℕ, ◌+◌, ◌*◌, ◌/◌, ◌≤◌, Bool, true, false, cond, List, length, Option, Some, None, Result, Ok, Err, refl, sym, ◌∙◌, ap, arith}
+use Rattle.std.proofs.Common.{◌≡◌, ℕ, ◌*◌, ◌/◌, ◌≤◌, true, List, length, Option, Some, None, Result, Ok, Err, sym, ◌∙◌, ap, arith}
 use Rattle.std.specs.Prelude.{IfSome, OnOk, is_ok, option_and_then}
-use Rattle.std.specs.Result.{result_ok}
 use Rattle.std.proofs.lemmas.Bool.{and_parts, leb-true, cond-false, false_from_ne_true, false≢true}
 use Rattle.lufs_base.specs.Layout.{blocks_of}
 use Rattle.lufs_base.specs.declared.geometry.Geometry.{Geometry}

@@ -2,3 +2,4 @@ pub mod NamedLemmas
 pub mod Content
 pub mod Statuses
 pub mod AskOrder
+pub mod Saying

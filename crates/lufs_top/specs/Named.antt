@@ -1,5 +1,5 @@
 -- Entries by name: the first of a name counts.
-use Rattle.std.specs.Prelude.{◌≡◌, ◌≢◌, ℕ, zero, suc, Bool, true, false, if◌then◌else◌, List, [], ◌∷◌, Option, Some, None, is_none, bytes_eq}
+use Rattle.std.specs.Prelude.{◌≡◌, ◌≢◌, ℕ, zero, suc, Bool, true, false, if◌then◌else◌, List, [], ◌∷◌, Option, None, is_none, bytes_eq}
 use Rattle.lufs_top.specs.declared.host.named.Named.{Named}
 
 -- what the name stands for

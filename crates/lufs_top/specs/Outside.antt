@@ -1,5 +1,5 @@
 -- What the calls of the outside do.
-use Rattle.std.specs.Prelude.{◌≡◌, ◌≤◌, ℕ, List, [], ◌∷◌, ◌++◌, take, Option, IfSome, option_map, Result, Ok, Err, MatchResult}
+use Rattle.std.specs.Prelude.{◌≡◌, ◌≤◌, ℕ, List, [], ◌∷◌, ◌++◌, take, Option, option_map, Result, Ok, Err, MatchResult}
 use Rattle.lufs_base.specs.Causes.{Rose}
 use Rattle.lufs_top.specs.declared.host.HostError.{HostError}
 use Rattle.lufs_top.specs.declared.host.HostError.TheVariants.{Missing, Failed, Mem}

@@ -1,5 +1,5 @@
 -- What a run of `scan` does to the outside.
-use Rattle.std.specs.Prelude.{◌≡◌, ◌≢◌, ◌⊎◌, ◌<◌, ◌≤◌, ℕ, unwrap_or, List, [], ◌∷◌, ◌++◌, take, Option, Some, None, IsSome, IfSome, option_and_then, option_map}
+use Rattle.std.specs.Prelude.{◌≡◌, ◌≢◌, Bool, ◌⊎◌, ◌<◌, ℕ, unwrap_or, List, [], ◌∷◌, ◌++◌, take, Option, Some, None, IsSome, IfSome, option_and_then, option_map}
 use Rattle.lufs_base.specs.Causes.{Rose}
 use Rattle.volume_model.specs.Image.{Image}
 use Rattle.lufs_base.specs.declared.geometry.Geometry.{Geometry}
@@ -13,7 +13,7 @@ use Rattle.lufs_top.specs.declared.host.AskAnswer.{AskAnswer}
 use Rattle.lufs_top.specs.declared.host.AskAnswer.TheVariants as answers
 use Rattle.lufs_top.specs.declared.host.AskKind.TheVariants.{TakeDisk, TakeSink}
 use Rattle.lufs_top.specs.declared.ending.Ending.{Ending}
-use Rattle.lufs_top.specs.declared.ending.Ending.TheVariants.{Done, Usage, Missing, DiskFault, NotVolume, BadHeader, BadRun, NoMemory}
+use Rattle.lufs_top.specs.declared.ending.Ending.TheVariants.{Usage, Missing, DiskFault, NoMemory}
 use Rattle.lufs_top.specs.Outside.{asks_with}
 use Rattle.lufs_top.specs.Words.{standard_output}
 use Rattle.lufs_top.specs.Ending.{status_of, text_of, IsEndingOf}
@@ -72,6 +72,7 @@ pub record Says (name : List ℕ) (ending : Ending) (faults_before faults_now : 
   pub which : (said ≡ ending) ⊎ (said ≡ NoMemory)
   pub text : Prints (text_of name said) faults_before faults_now before now
   pub right : IsStatusOf said faults_before faults_now status
+  pub whole : status ≡ 0 → now ≡ option_map (λ held. held ++ text_of name said) before
 
 -- the asks of standard output and of the volume, with their answers
 abbrev pub sink_ask : AskAnswer → Ask
@@ -93,8 +94,8 @@ IsBadLog image = (g : Geometry) × (geometry_of image ≡ Some g)
 abbrev pub HoldsText : List ℕ → ℕ → Option (List ℕ) → Type 0
 HoldsText text faults held = (held ≡ Some text) ⊎ ((0 < faults) × ((n : ℕ) × (held ≡ Some (take n text))))
 
--- Standard output holds the one text of an ending that has this status and is true of the volume; or it
--- couldn't be taken, and nothing is said.
+-- Standard output holds the one text of an ending that has this status and is true of the volume, and
+-- holds it whole where the status is 0.
 pub record IsSaid {K : Type 0} (held : K → Option (List ℕ)) (faults : K → ℕ) (volume : Option (List ℕ)) (image : Option Image) (sink : Option K) (status : ℕ) : Type 0 where
   pub said : Ending
   pub words : said ≡ Usage → volume ≡ None
@@ -103,6 +104,11 @@ pub record IsSaid {K : Type 0} (held : K → Option (List ℕ)) (faults : K → 
   pub is_back : sink ≡ Some sink_back
   pub text : HoldsText (text_of (unwrap_or volume []) said) (faults sink_back) (held sink_back)
   pub right : (status ≡ status_of said) ⊎ ((status_of said ≡ 0) × (status ≡ 5) × (0 < faults sink_back))
+  pub whole : status ≡ 0 → held sink_back ≡ Some (text_of (unwrap_or volume []) said)
+
+-- No sink was made or lent, and the status is that of a failed take, or of want of memory.
+abbrev pub IsUnsaid : {K : Type 0} → (old new : List ℕ → Option K) → (lent_old lent_new : List ℕ → Bool) → ℕ → Type 0
+IsUnsaid old new lent_old lent_new status = (new ≡ old) × (lent_new ≡ lent_old) × ((status ≡ 12) ⊎ (status ≡ 5))
 
 -- The asks of a run that ends with this status: standard output first, then the volume that the words
 -- name. An ask that isn't answered with what was asked for is the last one and gives the status, but

@@ -5,6 +5,8 @@ mod command;
 mod ending;
 pub mod host;
 mod report;
+#[cfg(test)]
+mod tests;
 mod text;
 mod top;
 mod volume;

@@ -1,4 +1,4 @@
-ghost use Rattle.std.specs.Prelude.{◌≡◌, ◌≤◌, ◌⊎◌};
+ghost use Rattle.std.specs.Prelude.{◌≡◌, ◌≤◌, ◌⊎◌, ◌++◌, option_map};
 ghost use Rattle.lufs_base.specs.Causes.{Rose};
 ghost use Rattle.lufs_top.specs.Run.{Prints, Says};
 
@@ -15,6 +15,7 @@ pub const NO_MEMORY: u8 = 12;
 // Puts the text, and answers the status, or where the put failed in place of success that it failed.
 fn put_text<K: Sink>(out: &mut K, text: &[u8], status: u8) -> u8
     ensures prints { Prints text.now (K.faults out.old) (K.faults out.new) (K.held out.old) (K.held out.new) }
+    ensures whole { result ≡ 0 → K.held out.new ≡ option_map (λ held. held ++ text.now) (K.held out.old) }
     ensures status { (result ≡ status) ⊎ ((status ≡ 0) × (result ≡ 5) × Rose (K.faults out.old) (K.faults out.new)) }
     ensures later { K.faults out.old ≤ K.faults out.new }
 {

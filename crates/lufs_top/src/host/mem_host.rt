@@ -4,8 +4,8 @@ ghost use Rattle.lufs_base.specs.Causes.{counted};
 ghost use Rattle.lufs_top.specs.Named.{held_at, lent_at};
 ghost use Rattle.lufs_top.specs.declared.host.HostError.TheVariants.{Mem, Failed};
 
-use super::named::{Named, find, give_back, lend, lend_new};
 use super::mem_sink::is_named;
+use super::named::{Named, find, give_back, lend, lend_new};
 use super::{Ask, AskAnswer, AskKind, Host, HostError, MemSink};
 use lufs_base::{Bytes, Mem};
 use sector_disk::MemDisk;

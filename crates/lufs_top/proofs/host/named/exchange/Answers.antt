@@ -1,5 +1,5 @@
-use Rattle.std.proofs.Common.{◌≡◌, ◌∙◌, ap, sym, refl, arith}
-use Rattle.std.specs.Prelude.{is_none, slice_set}
+use Rattle.std.proofs.Common.{◌∙◌, ap, sym}
+use Rattle.std.specs.Prelude.{is_none}
 use Rattle.lufs_top.specs.declared.host.named.Named.{Named}
 use Rattle.lufs_top.specs.Named.{IsFirst, IsAbsent}
 use Rattle.lufs_top.proofs.NamedLemmas.{held_at-absent, lent_at-absent, held_at-read, read_name, held_at-set_here, lent_at-set_here, held_at-set_other, lent_at-set_other}

@@ -1,6 +1,4 @@
-use Rattle.std.proofs.Common.{◌∙◌, ap, sym, refl}
-use Rattle.std.specs.Option.{option_copied}
-use Rattle.lufs_top.specs.Named.{held_at}
+use Rattle.std.proofs.Common.{◌∙◌, sym, refl}
 use Rattle.lufs_top.proofs.NamedLemmas.{held_at-absent, held_at-first}
 use Rattle.lufs_top.proofs.host.named.find.Goals as goal
 

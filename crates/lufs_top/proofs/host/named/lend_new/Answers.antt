@@ -1,4 +1,4 @@
-use Rattle.std.proofs.Common.{◌≡◌, List, [], ◌∷◌, ◌++◌, None, ◌∙◌, ap, refl, sym}
+use Rattle.std.proofs.Common.{List, [], ◌∷◌, ◌++◌, ◌∙◌, ap}
 use Rattle.std.specs.Prelude.{is_none}
 use Rattle.lufs_top.specs.declared.host.named.Named.{Named}
 use Rattle.lufs_top.specs.Named.{held_at, lent_at}

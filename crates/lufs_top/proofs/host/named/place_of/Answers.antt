@@ -1,7 +1,5 @@
-use Rattle.std.proofs.Common.{◌≡◌, ℕ, ◌<◌, true, false, List, length, get_or, take, ◌∙◌, sym, ap, subst, arith, add-one}
-use Rattle.std.proofs.lemmas.List.{take_all}
+use Rattle.std.proofs.Common.{◌≡◌, ℕ, true, false, List, get_or, ◌∙◌, sym, ap, arith, add-one}
 use Rattle.std.specs.Prelude.{bytes_eq}
-use Rattle.lufs_top.specs.Named.{IsAbsent}
 use Rattle.lufs_top.proofs.NamedLemmas.{absent_more, first_at}
 use Rattle.lufs_top.proofs.host.named.place_of.Goals as goal
 

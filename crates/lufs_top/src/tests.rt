@@ -1,0 +1,482 @@
+ghost use Rattle.std.specs.Prelude.{◌≡◌, ◌%◌, IfOk, length};
+
+use crate::host::MemHost;
+use crate::run;
+use lufs_base::{Mem, put_u32};
+use sector_disk::{Disk, Fail, MemDisk};
+use std::alloc::Global;
+
+/// A sector of the volume, a byte of it, and the word of 32 bits that is there.
+type Word = (usize, usize, u32);
+
+/// No word is changed: the reserved byte is 0 as it is.
+const SAME: Word = (16, 28, 0);
+
+/// The superblock of the smallest volume, and its log header of epoch 3.
+const VOLUME: [Word; 11] = [
+    (16, 0, 0x11954),
+    (16, 4, 1),
+    (16, 8, 1),
+    (16, 12, 64),
+    (16, 16, 32),
+    (16, 20, 256),
+    (16, 24, 99),
+    (24, 0, 0x4C55_4653),
+    (24, 4, 3),
+    (24, 8, 0),
+    (24, 12, 1),
+];
+
+/// Transaction 1 in ring place 0: the inode record of the root.
+const ROOT: [Word; 9] = [
+    (25, 4, 0x24100),
+    (25, 8, 128),
+    (25, 12, 2),
+    (25, 16, 0x41c0_0002),
+    (25, 148, 1),
+    (25, 152, 1),
+    (25, 156, 8),
+    (25, 504, 1),
+    (25, 508, 3),
+];
+
+/// Transaction 1 from the last place of the ring on: two directory chunks, in three sectors.
+const WRAPPED: [Word; 16] = [
+    (24, 8, 254),
+    (279, 4, 0x26000),
+    (279, 8, 512),
+    (279, 12, 3),
+    (279, 504, 1),
+    (279, 508, 3),
+    (25, 28, 0x26200),
+    (25, 32, 512),
+    (25, 36, 3),
+    (25, 504, 1),
+    (25, 508, 3),
+    (26, 52, 1),
+    (26, 56, 2),
+    (26, 60, 8),
+    (26, 504, 1),
+    (26, 508, 3),
+];
+
+/// The type of a delta, its home, its length, and whether the table of types allows it.
+type Row = (u32, u32, u32, bool);
+
+/// The smallest volume has its inode records from 0x24000 on, and its body from 0x25000 to 0x63000.
+const ROWS: [Row; 52] = [
+    (1, 0x23000, 416, true),
+    (1, 0x23000, 415, false),
+    (1, 0x23000, 417, false),
+    (1, 0x23004, 416, false),
+    (1, 0x22000, 416, false),
+    (1, 0x24000, 416, false),
+    (2, 0x24000, 128, true),
+    (2, 0x24f80, 128, true),
+    (2, 0x23f80, 128, false),
+    (2, 0x25000, 128, false),
+    (2, 0x24040, 128, false),
+    (2, 0x24000, 127, false),
+    (2, 0x24000, 129, false),
+    (3, 0x25000, 512, true),
+    (3, 0x62e00, 512, true),
+    (3, 0x24e00, 512, false),
+    (3, 0x63000, 512, false),
+    (3, 0x25100, 512, false),
+    (3, 0x25000, 511, false),
+    (3, 0x25000, 513, false),
+    (4, 0x25000, 4, true),
+    (4, 0x25000, 4096, true),
+    (4, 0x62ffc, 4, true),
+    (4, 0x24ffc, 4, false),
+    (4, 0x63000, 4, false),
+    (4, 0x25002, 4, false),
+    (4, 0x25000, 0, false),
+    (4, 0x25000, 6, false),
+    (4, 0x25000, 4100, false),
+    (4, 0x25ffc, 8, false),
+    (5, 0x25000, 4096, true),
+    (5, 0x62000, 4096, true),
+    (5, 0x24000, 4096, false),
+    (5, 0x63000, 4096, false),
+    (5, 0x25200, 4096, false),
+    (5, 0x25000, 4095, false),
+    (5, 0x25000, 4097, false),
+    (6, 0x25000, 1, true),
+    (6, 0x62000, 1024, true),
+    (6, 0x24000, 1, false),
+    (6, 0x63000, 1, false),
+    (6, 0x25001, 1, false),
+    (6, 0x25000, 0, false),
+    (6, 0x25000, 1025, false),
+    (7, 0x25000, 4096, true),
+    (7, 0x62000, 4096, true),
+    (7, 0x24000, 4096, false),
+    (7, 0x63000, 4096, false),
+    (7, 0x25000, 4095, false),
+    (7, 0x25000, 4097, false),
+    (0, 0x25000, 4096, false),
+    (9, 0x25000, 4096, false),
+];
+
+const ONE: &str =
+    "epoch 3 head 0 tid 1 ring 255\ntx 1 sectors 1 deltas 1 bytes 144\ncommitted 1 sectors 1\n";
+
+const NONE: &str = "epoch 3 head 0 tid 1 ring 255\ncommitted 0 sectors 0\n";
+
+/// What fails: takes and puts of the host by their numbers, and calls of the disk.
+#[derive(Clone, Copy, Debug)]
+struct Failing {
+    take: Option<u64>,
+    put: Option<u64>,
+    read: Option<u64>,
+}
+
+const NOTHING: Failing = Failing {
+    take: None,
+    put: None,
+    read: None,
+};
+
+/// What a run left.
+#[derive(Debug, Drop)]
+struct Left {
+    status: u8,
+    text: Vec<u8>,
+    /// The volume is back, and nothing was written to it.
+    unwritten: bool,
+}
+
+// Writes a word, where it fits.
+fn put(image: &mut [u8], word: Word)
+    ensures { length image.new ≡ length image.old }
+{
+    let (sector, byte, value) = word;
+    if sector < 1024 && byte < 512 {
+        let at = 512 * sector + byte;
+        if image.len() >= 4 && at <= image.len() - 4 {
+            put_u32(image, at, value);
+        }
+    }
+}
+
+// The first sectors of that volume with a log, with one word changed.
+fn volume(alloc: Global, sectors: u16, log: &[Word], change: Word) -> Result<Vec<u8>, Mem>
+    ensures { IfOk result (λ image. length image.items % 512 ≡ 0) }
+{
+    let mut image = vec![in alloc; 0u8; 512 * usize::from(sectors)]?;
+    for word in VOLUME {
+        put(&mut image, word);
+    }
+    for word in log {
+        put(&mut image, *word);
+    }
+    put(&mut image, change);
+    if image.len() % 512 != 0 {
+        return Err(Mem);
+    }
+    Ok(image)
+}
+
+// Writes the head of a record at a byte of the payload from ring place 0 on.
+fn put_head(image: &mut [u8], at: usize, home: u32, len: u32, kind: u32)
+    ensures { length image.new ≡ length image.old }
+{
+    if at < 130_000 {
+        let head = [0, home, len, kind];
+        for (k, word) in head.into_iter().enumerate() {
+            let at = at + 4 * k;
+            put(image, (25 + at / 504, at % 504, word));
+        }
+    }
+}
+
+// Makes the first sectors of the ring those of transaction 1.
+fn put_trailers(image: &mut [u8], sectors: usize)
+    ensures { length image.new ≡ length image.old }
+{
+    for sector in 25..280 {
+        if sector - 25 < sectors {
+            put(image, (sector, 504, 1));
+            put(image, (sector, 508, 3));
+        }
+    }
+}
+
+// A volume whose log has one transaction, of one delta.
+fn one_delta(alloc: Global, kind: u32, home: u32, len: u32) -> Result<Vec<u8>, Mem>
+    ensures { IfOk result (λ image. length image.items % 512 ≡ 0) }
+{
+    let mut image = volume(alloc, 792, &[], SAME)?;
+    let logged = if kind == 5 || kind == 7 || len > 4100 {
+        0
+    } else {
+        len as usize
+    };
+    put_head(&mut image, 0, home, len, kind);
+    put_head(&mut image, 16 + logged, 1, 1, 8);
+    put_trailers(&mut image, (16 + logged + 16).div_ceil(504));
+    Ok(image)
+}
+
+// Fills the payload of the whole ring with directory chunks, of which the last is cut.
+fn put_chunks(image: &mut [u8])
+    ensures { length image.new ≡ length image.old }
+{
+    for k in 0..244u32 {
+        put_head(image, 528 * k as usize, 0x25000 + 512 * k, 512, 3);
+    }
+}
+
+// A volume whose ring is full of directory chunks of one transaction.
+fn endless(alloc: Global) -> Result<Vec<u8>, Mem>
+    ensures { IfOk result (λ image. length image.items % 512 ≡ 0) }
+{
+    let mut image = volume(alloc, 792, &[], SAME)?;
+    put_chunks(&mut image);
+    put_trailers(&mut image, 255);
+    Ok(image)
+}
+
+// What `lufs` does with these words, where the host holds that image under `S`.
+fn run_over(alloc: Global, words: &[&str], image: Vec<u8>, failing: Failing) -> Result<Left, Mem>
+    requires { length image.items % 512 ≡ 0 }
+{
+    let mut host = MemHost::new(alloc);
+    if let Some(k) = failing.take {
+        host.fail_host(k)?;
+    }
+    if let Some(k) = failing.put {
+        host.fail_put("-", k)?;
+    }
+    let mut fails = Vec::new(alloc);
+    if let Some(k) = failing.read {
+        fails.push(Fail::Read(k))?;
+    }
+    host.add_disk("S", MemDisk::new(image, fails))?;
+    let mut said = Vec::new(alloc);
+    for word in words {
+        said.push(String::from_str(alloc, word)?)?;
+    }
+    let status = run(alloc, &mut host, &said);
+    Ok(Left {
+        status,
+        text: Vec::from_slice(alloc, host.sink("-").unwrap_or(b""))?,
+        unwritten: host.disk("S").is_some_and(|disk| disk.calls() == 0),
+    })
+}
+
+#[test]
+fn words_that_are_a_command(rt: HostRuntime) -> Result<(), std::test::Fail> {
+    let words: [(&[&str], u8, &str); 10] = [
+        (&["scan", "S"], 0, ONE),
+        (&[], 1, "usage\n"),
+        (&["scan"], 1, "usage\n"),
+        (&["scan", "S", "S"], 1, "usage\n"),
+        (&["scan", "-"], 1, "usage\n"),
+        (&["Scan", "S"], 1, "usage\n"),
+        (&["check", "S"], 1, "usage\n"),
+        (&["S"], 1, "usage\n"),
+        (&["scan", "T"], 2, "missing T\n"),
+        (&["scan", ""], 2, "missing \n"),
+    ];
+    for (words, status, text) in words {
+        let left = run_over(
+            rt.alloc(),
+            words,
+            volume(rt.alloc(), 792, &ROOT, SAME)?,
+            NOTHING,
+        )?;
+        assert_eq!(rt; left.status, status, "{words:?}");
+        assert_eq!(rt; left.text.as_slice(), text.as_bytes(), "{words:?}");
+        assert!(rt; left.unwritten, "{words:?}");
+    }
+    Ok(())
+}
+
+#[test]
+fn volumes_that_are_listed_or_refused(rt: HostRuntime) -> Result<(), std::test::Fail> {
+    let not_a_volume = "not a volume S\n";
+    let bad_header = "bad log header\n";
+    let volumes = [
+        (792, SAME, 0, ONE),
+        (793, SAME, 0, ONE),
+        (0, SAME, 6, not_a_volume),
+        (16, SAME, 6, not_a_volume),
+        (24, SAME, 6, not_a_volume),
+        (791, SAME, 6, not_a_volume),
+        (792, (16, 0, 0), 6, not_a_volume),
+        (792, (16, 0, 0x5419_0100), 6, not_a_volume),
+        (792, (16, 4, 2), 6, not_a_volume),
+        (792, (16, 8, 0), 6, not_a_volume),
+        (792, (16, 8, 65), 6, not_a_volume),
+        (792, (16, 12, 56), 6, not_a_volume),
+        (792, (16, 16, 0), 6, not_a_volume),
+        (792, (16, 20, 248), 6, not_a_volume),
+        (792, (16, 24, 98), 6, not_a_volume),
+        (792, (16, 508, 1), 6, not_a_volume),
+        (792, (24, 0, 0), 11, bad_header),
+        (792, (24, 4, 0), 11, bad_header),
+        (792, (24, 8, 255), 11, bad_header),
+        (792, (24, 12, 0), 11, bad_header),
+        (792, (24, 16, 1), 11, bad_header),
+        (792, (25, 0, 1), 11, "bad log 1 0\n"),
+        (792, (25, 12, 9), 11, "bad log 1 0\n"),
+        (792, (25, 504, 0), 0, NONE),
+        (792, (25, 508, 2), 0, NONE),
+    ];
+    for (sectors, change, status, text) in volumes {
+        let image = volume(rt.alloc(), sectors, &ROOT, change)?;
+        let left = run_over(rt.alloc(), &["scan", "S"], image, NOTHING)?;
+        assert_eq!(rt; left.status, status, "{sectors} {change:?}");
+        assert_eq!(rt;
+            left.text.as_slice(),
+            text.as_bytes(),
+            "{sectors} {change:?}"
+        );
+        assert!(rt; left.unwritten, "{sectors} {change:?}");
+    }
+    Ok(())
+}
+
+#[test]
+fn takes_puts_and_reads_that_fail(rt: HostRuntime) -> Result<(), std::test::Fail> {
+    let bad = (16, 0, 0);
+    let fails = [
+        (
+            SAME,
+            Failing {
+                take: Some(1),
+                ..NOTHING
+            },
+            5,
+            "",
+        ),
+        (
+            SAME,
+            Failing {
+                take: Some(2),
+                ..NOTHING
+            },
+            4,
+            "disk fault S\n",
+        ),
+        (
+            SAME,
+            Failing {
+                take: Some(3),
+                ..NOTHING
+            },
+            0,
+            ONE,
+        ),
+        (
+            SAME,
+            Failing {
+                put: Some(1),
+                ..NOTHING
+            },
+            5,
+            "",
+        ),
+        (
+            bad,
+            Failing {
+                put: Some(1),
+                ..NOTHING
+            },
+            6,
+            "",
+        ),
+        (
+            SAME,
+            Failing {
+                put: Some(2),
+                ..NOTHING
+            },
+            0,
+            ONE,
+        ),
+        (
+            SAME,
+            Failing {
+                read: Some(1),
+                ..NOTHING
+            },
+            4,
+            "disk fault S\n",
+        ),
+        (
+            SAME,
+            Failing {
+                read: Some(2),
+                ..NOTHING
+            },
+            4,
+            "disk fault S\n",
+        ),
+        (
+            SAME,
+            Failing {
+                read: Some(3),
+                ..NOTHING
+            },
+            4,
+            "disk fault S\n",
+        ),
+        (
+            SAME,
+            Failing {
+                read: Some(4),
+                ..NOTHING
+            },
+            0,
+            ONE,
+        ),
+    ];
+    for (change, failing, status, text) in fails {
+        let image = volume(rt.alloc(), 792, &ROOT, change)?;
+        let left = run_over(rt.alloc(), &["scan", "S"], image, failing)?;
+        assert_eq!(rt; left.status, status, "{failing:?}");
+        assert_eq!(rt; left.text.as_slice(), text.as_bytes(), "{failing:?}");
+        assert!(rt; left.unwritten, "{failing:?}");
+    }
+    Ok(())
+}
+
+#[test]
+fn logs_of_one_transaction(rt: HostRuntime) -> Result<(), std::test::Fail> {
+    let wrapped =
+        "epoch 3 head 254 tid 1 ring 255\ntx 1 sectors 3 deltas 2 bytes 1056\ncommitted 1 sectors 3\n";
+    let none = "epoch 3 head 254 tid 1 ring 255\ncommitted 0 sectors 0\n";
+    let bad = "bad log 1 254\n";
+    for (what, change, status, text) in [
+        ("whole", SAME, 0, wrapped),
+        ("first and third sector only", (25, 504, 0), 0, none),
+        ("commit of another number", (26, 52, 2), 11, bad),
+        ("commit of another count", (26, 56, 1), 11, bad),
+        ("byte behind the commit", (26, 64, 1), 11, bad),
+        ("deltas out of order", (25, 28, 0x25e00), 11, bad),
+    ] {
+        let image = volume(rt.alloc(), 792, &WRAPPED, change)?;
+        let left = run_over(rt.alloc(), &["scan", "S"], image, NOTHING)?;
+        assert_eq!(rt; left.status, status, "{what}");
+        assert_eq!(rt; left.text.as_slice(), text.as_bytes(), "{what}");
+    }
+    let left = run_over(rt.alloc(), &["scan", "S"], endless(rt.alloc())?, NOTHING)?;
+    assert_eq!(rt; left.status, 0, "endless");
+    assert_eq!(rt; left.text.as_slice(), NONE.as_bytes(), "endless");
+    Ok(())
+}
+
+#[test]
+fn deltas_at_the_edges_of_their_rows(rt: HostRuntime) -> Result<(), std::test::Fail> {
+    for (kind, home, len, allowed) in ROWS {
+        let image = one_delta(rt.alloc(), kind, home, len)?;
+        let left = run_over(rt.alloc(), &["scan", "S"], image, NOTHING)?;
+        let is_bad = left.text.as_slice() == "bad log 1 0\n".as_bytes();
+        let want = if allowed { (0, false) } else { (11, true) };
+        assert_eq!(rt; (left.status, is_bad), want, "{kind} {home} {len}");
+    }
+    Ok(())
+}
