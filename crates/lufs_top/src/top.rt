@@ -30,7 +30,7 @@ fn status_without_output(error: HostError) -> u8
 /// the exit status, prints one line where it isn't 0, gives back what it took, and always returns.
 /// Want of memory may end a run anywhere, with status 12 (`README.md`, "Statuses").
 pub fn run<H: Host>(alloc: Global, host: &mut H, words: &[String]) -> u8
-    // The words match no command, and where they do not, no other status but a fault of standard output.
+    // Words that match no command, unless standard output fails or memory is wanted.
     ensures usage { result ≡ 1 → volume_of words.now ≡ None }
     ensures no_command { volume_of words.now ≡ None → (result ≡ 1) ⊎ ((result ≡ 5) ⊎ (result ≡ 12)) }
 
