@@ -1,5 +1,5 @@
 -- The bytes of a number are determined by the number.
-use Rattle.std.proofs.Common.{◌≡◌, ℕ, zero, suc, ◌+◌, ◌*◌, ◌^◌, ◌<◌, ◌≤◌, List, length, take, slice_index, refl, ◌∙◌, ap, sym, arith, length-take, get_or-take}
+use Rattle.std.proofs.Common.{◌≡◌, ℕ, zero, suc, ◌+◌, ◌^◌, ◌<◌, ◌≤◌, List, length, take, slice_index, ◌∙◌, ap, sym, arith, get_or-take}
 use Rattle.std.proofs.lemmas.List.{ext_get_or, length-take-le}
 use Rattle.std.proofs.lemmas.Nat.{same_from_place}
 use Rattle.byteorder.specs.Endian.{big_from}

@@ -1,3 +1,5 @@
+ghost use Rattle.std.specs.Prelude.{Some, codes};
+
 use std::alloc::{AllocError, AllocFailed};
 use std::error::Error;
 use std::fmt;
@@ -7,6 +9,8 @@ use std::fmt;
 pub struct Mem;
 
 impl fmt::Display for Mem {
+    ghost output = { λ _. Some (codes "no memory") };
+
     fn fmt<W: fmt::Write>(&self, f: &mut fmt::Formatter<W>) -> fmt::Result {
         f.write_str("no memory")
     }
@@ -31,6 +35,8 @@ impl<T: Drop> From<AllocFailed<T>> for Mem {
 pub struct DiskFault;
 
 impl fmt::Display for DiskFault {
+    ghost output = { λ _. Some (codes "disk fault") };
+
     fn fmt<W: fmt::Write>(&self, f: &mut fmt::Formatter<W>) -> fmt::Result {
         f.write_str("disk fault")
     }

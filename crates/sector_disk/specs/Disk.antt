@@ -1,5 +1,5 @@
 -- What the calls of a disk do to what it tells.
-use Rattle.std.specs.Prelude.{◌≡◌, ◌<◌, ◌⊎◌, ℕ, ◌+◌, ◌/◌, ◌%◌, List, ◌∷◌, [], length, Option, IfSome, option_map, is_some, Result, OnOk, MatchResult}
+use Rattle.std.specs.Prelude.{◌≡◌, ◌<◌, ◌⊎◌, ℕ, ◌/◌, ◌%◌, List, length, Option, IfSome, option_map, is_some, Result, OnOk, MatchResult}
 use Rattle.volume_model.specs.declared.device_call.DeviceCall.{DeviceCall}
 use Rattle.volume_model.specs.declared.device_call.DeviceCall.TheVariants.{Flush}
 use Rattle.volume_model.specs.Image.{Image, sector, sectors_from, overwritten}

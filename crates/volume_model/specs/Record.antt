@@ -1,5 +1,5 @@
 -- What happened on a disk since a moment: how it stood then, and the listed calls since.
-use Rattle.std.specs.Prelude.{◌≡◌, List, ◌++◌, ◌∷◌, []}
+use Rattle.std.specs.Prelude.{List, ◌++◌, ◌∷◌, []}
 use Rattle.volume_model.specs.declared.device_call.DeviceCall.{DeviceCall}
 use Rattle.volume_model.specs.Image.{Image}
 

@@ -1,9 +1,8 @@
 -- Small logs, to compute the definitions on: the smallest volume, epoch 3, head 0, and transaction 1
 -- in ring place 0, which writes the root's inode record.
-use Rattle.std.specs.Prelude.{ℕ, ◌==◌, if◌then◌else◌, List, [], ◌∷◌, ◌++◌, replicate, take, codes}
+use Rattle.std.specs.Prelude.{ℕ, ◌==◌, if◌then◌else◌, List, [], ◌∷◌, ◌++◌, replicate, take}
 use Rattle.lufs_base.specs.Fields.{field_bytes}
 use Rattle.lufs_base.specs.declared.geometry.Geometry.{Geometry}
-use Rattle.lufs_base.specs.declared.delta.Delta.{Delta}
 use Rattle.lufs_base.specs.declared.delta.DeltaKind.TheVariants.{Inode}
 use Rattle.volume_model.specs.declared.log.Header.{Header}
 use Rattle.volume_model.specs.declared.log.Tx.{Tx}
