@@ -1,11 +1,13 @@
 -- A host in memory, as a test sees it.
-use Rattle.std.specs.Prelude.{◌≡◌, ◌⊎◌, ℕ, List, [], map, Option, Result, Err}
+use Rattle.std.specs.Prelude.{◌≡◌, ◌⊎◌, ◌∷◌, ℕ, if◌then◌else◌, List, [], map, Option, Result, Err, bytes_eq}
+use Rattle.std.specs.List.{flat_map}
 use Rattle.sector_disk.specs.MemDisk.{State as DiskState}
 use Rattle.lufs_top.specs.MemSink.{State as SinkState}
 use Rattle.lufs_top.specs.declared.host.Ask.{Ask}
 use Rattle.lufs_top.specs.declared.host.HostError.{HostError}
 use Rattle.lufs_top.specs.declared.host.HostError.TheVariants.{Failed, Mem}
 use Rattle.lufs_top.specs.declared.host.mem_host.MemHost.{MemHost}
+use Rattle.lufs_top.specs.declared.host.mem_host.PutFail.{PutFail}
 use Rattle.lufs_top.specs.Named.{held_at}
 
 -- the disk and the sink of a name, none where it is lent
@@ -29,6 +31,14 @@ takes_of h = h.takes
 -- the puts that are to fail, by the name of the sink and their number
 abbrev pub put_fails_of : MemHost → List (List ℕ × ℕ)
 put_fails_of h = map (λ f. (f.sink, f.k)) h.put_fails.items
+
+-- the number of a put that is to fail, if it is of the sink of this name
+abbrev pub put_of_sink : List ℕ → PutFail → List ℕ
+put_of_sink name f = if bytes_eq f.sink name then f.k ∷ [] else []
+
+-- the puts that are to fail of the sink of this name, by their number
+abbrev pub puts_to_fail : MemHost → List ℕ → List ℕ
+puts_to_fail h name = flat_map (put_of_sink name) h.put_fails.items
 
 -- but for its disks the host is as it was
 pub record SameButDisks (old new : MemHost) : Type 0 where
@@ -66,7 +76,7 @@ pub record IsSameHost (old new : MemHost) : Type 0 where
   pub sinks : new.sinks ≡ old.sinks
   pub asks : asks_of new ≡ asks_of old
   pub fails : fails_of new ≡ fails_of old
-  pub put_fails : put_fails_of new ≡ put_fails_of old
+  pub put_fails : new.put_fails ≡ old.put_fails
   pub faults : new.faults ≡ old.faults
   pub absent : new.absent ≡ old.absent
 

@@ -107,8 +107,8 @@ pub record IsSaid {K : Type 0} (held : K → Option (List ℕ)) (faults : K → 
   pub whole : status ≡ 0 → held sink_back ≡ Some (text_of (unwrap_or volume []) said)
 
 -- No sink was made or lent, and the status is that of a failed take, or of want of memory.
-abbrev pub IsUnsaid : {K : Type 0} → (old new : List ℕ → Option K) → (lent_old lent_new : List ℕ → Bool) → ℕ → Type 0
-IsUnsaid old new lent_old lent_new status = (new ≡ old) × (lent_new ≡ lent_old) × ((status ≡ 12) ⊎ (status ≡ 5))
+abbrev pub IsWithoutOutput : {K : Type 0} → (old new : List ℕ → Option K) → (lent_old lent_new : List ℕ → Bool) → ℕ → Type 0
+IsWithoutOutput old new lent_old lent_new status = (new ≡ old) × (lent_new ≡ lent_old) × ((status ≡ 12) ⊎ (status ≡ 5))
 
 -- The asks of a run that ends with this status: standard output first, then the volume that the words
 -- name. An ask that isn't answered with what was asked for is the last one and gives the status, but

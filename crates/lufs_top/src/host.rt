@@ -7,7 +7,7 @@ ghost use Rattle.lufs_top.specs.declared.host.HostError.{HostError};
 ghost use Rattle.lufs_top.specs.declared.host.HostError.TheVariants.{Missing};
 ghost use Rattle.lufs_top.specs.declared.host.AskKind.TheVariants.{TakeDisk, TakeSink};
 
-use lufs_base::Bytes;
+use lufs_base::{Bytes, Mem};
 use sector_disk::Disk;
 
 mod mem_host;
@@ -47,6 +47,16 @@ pub enum HostError {
     Failed,
     /// Memory was wanted.
     Mem,
+}
+
+impl From<Mem> for HostError {
+    ghost use Rattle.lufs_top.specs.declared.host.HostError.TheVariants.{Mem};
+
+    ghost from_gives = { λ _ e. e ≡ Mem };
+
+    fn from(_: Mem) -> Self {
+        HostError::Mem
+    }
 }
 
 /// What a host was asked for.

@@ -2,7 +2,7 @@ ghost use Rattle.std.specs.Prelude.{◌≡◌, ◌≢◌, ◌<◌, ◌⊎◌, �
 ghost use Rattle.lufs_base.specs.Causes.{Rose};
 ghost use Rattle.volume_model.specs.Superblock.{geometry_of};
 ghost use Rattle.lufs_top.specs.Words.{volume_of, standard_output};
-ghost use Rattle.lufs_top.specs.Run.{told_image, at_volume, IsListed, IsBadLog, IsBack, DiskRose, IsSaid, IsUnsaid, AsksInOrder};
+ghost use Rattle.lufs_top.specs.Run.{told_image, at_volume, IsListed, IsBadLog, IsBack, DiskRose, IsSaid, IsWithoutOutput, AsksInOrder};
 
 use crate::command::scan_command;
 use crate::host::{Host, HostError};
@@ -48,7 +48,7 @@ pub fn run<H: Host>(alloc: Global, host: &mut H, words: &[String]) -> u8
     ensures statuses { Contains (0 ∷ 1 ∷ 2 ∷ 4 ∷ 5 ∷ 6 ∷ 11 ∷ 12 ∷ []) result }
 
     // What standard output then holds, unless it couldn't be taken.
-    ensures said { IsTrue (H.tells host.old) → IsUnsaid (H.sink_at host.old) (H.sink_at host.new) (H.sink_lent host.old) (H.sink_lent host.new) result
+    ensures said { IsTrue (H.tells host.old) → IsWithoutOutput (H.sink_at host.old) (H.sink_at host.new) (H.sink_lent host.old) (H.sink_lent host.new) result
         ⊎ IsSaid H.K.held H.K.faults (volume_of words.now) (told_image H.D.present (at_volume (H.disk_at host.old) (volume_of words.now))) (H.sink_at host.new standard_output) result }
 
     // The disk is back, and nothing was written to it. All else that the host holds is as it was.

@@ -32,17 +32,9 @@ pub struct MemHost {
     absent: u64,
 }
 
-impl From<Mem> for HostError {
-    ghost from_gives = { λ _ e. e ≡ Mem };
-
-    fn from(_: Mem) -> Self {
-        HostError::Mem
-    }
-}
-
 impl MemHost {
     ghost use Rattle.std.specs.Prelude.{vec_len, vec_capacity, Some, is_ok, if◌then◌else◌, ℕ, List};
-    ghost use Rattle.lufs_top.specs.MemHost.{disk_of, sink_of, fails_of, put_fails_of, takes_of, IsNew, SameButDisks, SameHoldings, IsSameHost};
+    ghost use Rattle.lufs_top.specs.MemHost.{disk_of, sink_of, fails_of, put_fails_of, puts_to_fail, takes_of, IsNew, SameButDisks, SameHoldings, IsSameHost};
 
     /// A host that holds nothing.
     pub fn new(alloc: Global) -> Self
@@ -116,7 +108,9 @@ impl MemHost {
     }
 
     // The numbers of the puts that are to fail, of the sink of that name.
-    fn put_fails(&self, name: &str) -> Result<Vec<u64>, Mem> {
+    fn put_fails(&self, name: &str) -> Result<Vec<u64>, Mem>
+        ensures { IfOk result (λ fails. fails.items ≡ puts_to_fail self.now name.now) }
+    {
         let mut fails = Vec::new(self.alloc);
         for fail in &self.put_fails {
             if fail.sink.as_slice() == name.as_bytes() {
@@ -148,7 +142,8 @@ impl Host for MemHost {
     ghost use Rattle.lufs_top.specs.declared.host.HostError.TheVariants.{Missing};
     ghost use Rattle.std.proofs.Common.{rules};
     ghost use Rattle.lufs_top.specs.Named.{held_at, lent_at};
-    ghost use Rattle.lufs_top.specs.MemHost.{fails_of, takes_of, FailedOrMem};
+    ghost use Rattle.lufs_top.specs.MemHost.{fails_of, takes_of, puts_to_fail, FailedOrMem};
+    ghost use Rattle.lufs_top.specs.MemSink.{new_state};
 
     type D = MemDisk;
 
@@ -215,6 +210,7 @@ impl Host for MemHost {
     fn take_sink(&mut self, name: &str) -> Result<MemSink, HostError>
         ensures named { Contains (fails_of self.old) (counted (takes_of self.old)) → FailedOrMem result }
         ensures only_named { result ≡ Err Failed → Contains (fails_of self.old) (counted (takes_of self.old)) }
+        ensures made { IfOk result (λ k. k ≡ new_state (puts_to_fail self.old name.now)) }
         ensures empty { IsTrue true → IfOk result (λ k. Some k.bytes ≡ Some []) }
         ensures fresh { IsTrue true → IfOk result (λ k. k.faults ≡ 0) }
         ensures not_missing { result ≢ Err Missing }
