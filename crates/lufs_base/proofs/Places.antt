@@ -1,14 +1,16 @@
--- The region of a block is the only one that it lies in.
-use Rattle.std.proofs.Common.{◌≡◌, ℕ, ◌+◌, ◌-◌, ◌*◌, ◌/◌, ◌%◌, ◌<◌, sym, ◌∙◌, ap, arith}
+-- A block of the volume lies in its region, and in no other.
+use Rattle.std.proofs.Common.{◌≡◌, ℕ, ◌+◌, ◌-◌, ◌*◌, ◌/◌, ◌%◌, ◌<◌, ◌≤◌, ◌⊎◌, inl, inr, nat_lt, subst, sym, ◌∙◌, ap, arith}
 use Rattle.std.proofs.lemmas.Nat.{div-mul-add, mod-mul-add}
+use Rattle.std.proofs.Math.Nat.{div-add-mod', mod-lt, mul-le-mul_right}
+use Rattle.std.proofs.lemmas.Bool.{cases_Bool, ltb-true, ltb-false}
 use Rattle.std.proofs.lemmas.Bool.Decides.{nat_tests}
 use Rattle.lufs_base.specs.declared.geometry.Geometry.{Geometry}
 use Rattle.lufs_base.specs.declared.geometry.Region.{Region}
 use Rattle.lufs_base.specs.declared.geometry.Region.TheVariants.{Boot, Super, Log, GroupBlock, Inodes, Body}
-use Rattle.lufs_base.specs.Layout.{IsGeometry, group_start, region_in, region_of, InRegion}
+use Rattle.lufs_base.specs.Layout.{IsGeometry, group_start, region_in, region_of, blocks_of, InRegion}
 
 -- a block past the log has the region of its place in its group
-behind_log : (g : Geometry) (b n place : ℕ) → b ≡ group_start g n + place → place < g.bpg → region_of g b ≡ region_in g n place
+pub behind_log : (g : Geometry) (b n place : ℕ) → b ≡ group_start g n + place → place < g.bpg → region_of g b ≡ region_in g n place
 behind_log g b n place is below =
     let away : b - (3 + g.log / 8) ≡ n * g.bpg + place = omega arith in
     let group : (b - (3 + g.log / 8)) / g.bpg ≡ n = ap (λ (k : ℕ). k / g.bpg) away ∙ div-mul-add n g.bpg place below in
@@ -16,7 +18,7 @@ behind_log g b n place is below =
     let tests : region_of g b ≡ region_in g ((b - (3 + g.log / 8)) / g.bpg) ((b - (3 + g.log / 8)) % g.bpg) = grind (arith, nat_tests) in
     tests ∙ ap (λ (k : ℕ). region_in g k ((b - (3 + g.log / 8)) % g.bpg)) group ∙ ap (λ (k : ℕ). region_in g n k) rest
 
-only_region : (g : Geometry) (b : ℕ) (r : Region) → IsGeometry g → InRegion g b r → r ≡ region_of g b
+pub only_region : (g : Geometry) (b : ℕ) (r : Region) → IsGeometry g → InRegion g b r → r ≡ region_of g b
 only_region g b Boot ok lies = grind (arith, nat_tests)
 only_region g b Super ok lies = grind (arith, nat_tests)
 only_region g b Log ok lies = grind (arith, nat_tests)
@@ -35,3 +37,41 @@ only_region g b (Body n) ok lies =
 
 pub one_region_of : (g : Geometry) (b : ℕ) (r s : Region) → IsGeometry g → InRegion g b r → InRegion g b s → r ≡ s
 one_region_of g b r s ok first second = only_region g b r ok first ∙ sym (only_region g b s ok second)
+
+-- a block past the log lies in the region of its place in its group
+lies_in_group : (g : Geometry) (b n place : ℕ) → IsGeometry g → n < g.groups → b ≡ group_start g n + place → place < g.bpg → InRegion g b (region_in g n place)
+lies_in_group g b n place ok within is below =
+    let next : group_start g (n + 1) ≡ group_start g n + g.bpg = omega arith in
+    grind (arith, nat_tests)
+
+pub or_less : (a b : ℕ) → (a < b) ⊎ (b ≤ a)
+or_less a b = elim (cases_Bool (nat_lt a b)) [
+  | inl less ↦ inl (ltb-true a b less)
+  | inr not ↦ inr (ltb-false a b not)
+]
+
+-- a group that begins before the end of all groups is one of them
+group_within : (n groups bpg : ℕ) → n * bpg < groups * bpg → n < groups
+group_within n groups bpg before = elim (or_less n groups) [
+  | inl less ↦ less
+  | inr more ↦ let past : groups * bpg ≤ n * bpg = mul-le-mul_right bpg more in absurd (omega (arith, past, before))
+]
+
+-- a block before the groups lies in its region
+lies_before_groups : (g : Geometry) (b : ℕ) → b < group_start g 0 → InRegion g b (region_of g b)
+lies_before_groups g b before = grind (arith, nat_tests)
+
+-- a block of the volume lies in its region
+pub lies_in_region : (g : Geometry) (b : ℕ) → IsGeometry g → b < blocks_of g → InRegion g b (region_of g b)
+lies_in_region g b ok inside = elim (or_less b (group_start g 0)) [
+  | inl before ↦ lies_before_groups g b before
+  | inr behind ↦
+      let away = b - (3 + g.log / 8) in
+      let n = away / g.bpg in
+      let place = away % g.bpg in
+      let split : n * g.bpg + place ≡ away = div-add-mod' away g.bpg in
+      let below : place < g.bpg = mod-lt away (omega (arith, ok.bpg_low)) in
+      let is : b ≡ group_start g n + place = omega (arith, split, behind) in
+      let within : n < g.groups = group_within n g.groups g.bpg (omega (arith, split, inside, behind)) in
+      subst (λ (r : Region). InRegion g b r) (sym (behind_log g b n place is below)) (lies_in_group g b n place ok within is below)
+]

@@ -1,5 +1,6 @@
 -- Big-endian numbers in bytes.
-use Rattle.std.specs.Prelude.{◌<◌, ℕ, ◌+◌, List, ◌++◌, length, take, drop, slice_index}
+use Rattle.std.specs.Prelude.{◌<◌, ℕ, ◌+◌, Bool, ◌==◌, List, ◌++◌, length, take, drop, slice_index}
+use Rattle.std.specs.List.{list_all}
 use Rattle.byteorder.specs.Endian.{big_bytes, big_number}
 
 -- the number in the first n bytes
@@ -27,3 +28,7 @@ put_at old at bytes = take at old ++ (bytes ++ drop (at + length bytes) old)
 -- each is a byte
 abbrev pub AreBytes : List ℕ → Type 0
 AreBytes xs = (i : ℕ) → slice_index xs i < 256
+
+-- each byte is 0
+abbrev pub are_zeros : List ℕ → Bool
+are_zeros bytes = list_all (λ b. b == 0) bytes

@@ -1,3 +1,5 @@
 pub mod Fields
 pub mod Layout
 pub mod Causes
+pub mod Name
+pub mod Kinds

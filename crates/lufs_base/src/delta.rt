@@ -1,4 +1,5 @@
 ghost use Rattle.std.specs.Prelude.{◌≡◌, ◌∷◌, ◌++◌, [], length, OnOk, OnErr};
+ghost use Rattle.lufs_base.specs.Kinds.{has_bytes};
 
 use crate::{Bytes, Mem};
 use std::alloc::Global;
@@ -21,6 +22,15 @@ pub enum DeltaKind {
     LinkText,
     /// A freed metadata block: older deltas on it are void.
     Cancel,
+}
+
+impl DeltaKind {
+    /// Whether the bytes of such a delta stand in the log (`docs/FORMAT.md`, "Log records").
+    pub fn has_bytes(self) -> bool
+        ensures { result ≡ has_bytes self }
+    {
+        !matches!(self, DeltaKind::Zero | DeltaKind::Cancel)
+    }
 }
 
 /// One logged change: `len` bytes at the byte address `home`. A zero block and a cancel log no bytes.

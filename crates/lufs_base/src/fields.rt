@@ -1,5 +1,5 @@
-ghost use Rattle.std.specs.Prelude.{◌≡◌, ℕ, List, ◌+◌, ◌≤◌, length, take};
-ghost use Rattle.lufs_base.specs.Fields.{u16_at, u32_at, u64_at, number_in, AreBytes, field_bytes, put_at};
+ghost use Rattle.std.specs.Prelude.{◌≡◌, ℕ, List, ◌+◌, ◌^◌, ◌≤◌, ◌<◌, ◌++◌, length, take, drop, replicate};
+ghost use Rattle.lufs_base.specs.Fields.{u16_at, u32_at, u64_at, number_in, AreBytes, field_bytes, put_at, are_zeros};
 
 use byteorder::{BigEndian, ByteOrder};
 
@@ -54,8 +54,32 @@ pub fn put_u64(out: &mut [u8], at: usize, value: u64)
     BigEndian::write_u64(&mut out[at..], value);
 }
 
+/// Makes each byte 0.
+pub fn clear(out: &mut [u8])
+    ensures { out.new ≡ replicate (length out.old) 0 }
+{
+    out.fill(0);
+}
+
+/// Whether each byte is 0.
+pub fn are_zeros(bytes: &[u8]) -> bool
+    ensures { result ≡ are_zeros bytes.now }
+{
+    bytes.iter().all(|b| *b == 0)
+}
+
 /// Two fields of one width with the same number have the same bytes.
 pub fn one_spelling()
     ensures { (n : ℕ) (xs ys : List ℕ) → AreBytes xs → AreBytes ys → n ≤ length xs → n ≤ length ys
         → number_in n xs ≡ number_in n ys → take n xs ≡ take n ys }
+{}
+
+/// A field reads as the number that was written.
+pub fn read_back()
+    ensures { (n value : ℕ) (rest : List ℕ) → value < 256 ^ n → number_in n (field_bytes n value ++ rest) ≡ value }
+{}
+
+/// Bytes begin with the field of the number that they read as.
+pub fn spelled_again()
+    ensures { (n : ℕ) (bytes : List ℕ) → AreBytes bytes → n ≤ length bytes → field_bytes n (number_in n bytes) ++ drop n bytes ≡ bytes }
 {}

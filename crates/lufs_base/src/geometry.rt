@@ -105,3 +105,8 @@ impl Geometry {
 pub fn one_region()
     ensures { (g : Geometry) (b : ℕ) (r s : Region) → IsGeometry g → InRegion g b r → InRegion g b s → r ≡ s }
 {}
+
+/// Each block of the volume lies in the region of what it is for.
+pub fn its_region()
+    ensures { (g : Geometry) (b : ℕ) → IsGeometry g → b < blocks_of g → InRegion g b (region_of g b) }
+{}

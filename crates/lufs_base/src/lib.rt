@@ -6,13 +6,18 @@ mod bytes;
 mod delta;
 mod fields;
 mod geometry;
+mod name;
 mod numbers;
 mod wants;
 
 pub use bytes::Bytes;
 pub use delta::{Delta, DeltaKind, DeltaList};
-pub use fields::{get_u16, get_u32, get_u64, one_spelling, put_u16, put_u32, put_u64};
-pub use geometry::{Geometry, Region, one_region};
+pub use fields::{
+    are_zeros, clear, get_u16, get_u32, get_u64, one_spelling, put_u16, put_u32, put_u64,
+    read_back, spelled_again,
+};
+pub use geometry::{Geometry, Region, its_region, one_region};
+pub use name::{Name, is_name};
 pub use numbers::{BlockNo, Epoch, Ino, Tid};
 pub use wants::{DiskFault, Mem};
 

@@ -2,8 +2,8 @@ ghost use Rattle.std.specs.Prelude.{◌≤◌};
 ghost use Rattle.lufs_base.specs.Layout.{IsGeometry};
 
 use crate::{
-    BlockNo, Bytes, Delta, DeltaKind, DeltaList, Geometry, Ino, Region, get_u16, get_u32, get_u64,
-    put_u16, put_u32, put_u64,
+    BlockNo, Bytes, Delta, DeltaKind, DeltaList, Geometry, Ino, Name, Region, get_u16, get_u32,
+    get_u64, put_u16, put_u32, put_u64,
 };
 use std::test::Fail;
 
@@ -154,5 +154,35 @@ fn lists(rt: HostRuntime) -> Result<(), Fail> {
         (DeltaKind::LinkText, 0x26000, 2)
     );
     assert_eq!(rt; first.bytes.as_slice(), [7, 8].as_slice());
+    assert_eq!(rt;
+        (first.kind.has_bytes(), DeltaKind::Zero.has_bytes()),
+        (true, false)
+    );
+    Ok(())
+}
+
+#[test]
+fn names(rt: HostRuntime) -> Result<(), Fail> {
+    let alloc = rt.alloc();
+    for (byte, count, want) in [
+        (b'a', 0, false),
+        (b'a', 1, true),
+        (b'a', 255, true),
+        (b'a', 256, false),
+        (0x20, 1, false),
+        (0x21, 1, true),
+        (b'.', 2, true),
+        (b'/', 1, false),
+        (b'0', 1, true),
+        (0x7e, 1, true),
+        (0x7f, 1, false),
+    ] {
+        let bytes = vec![in alloc; byte; count]?;
+        let mut name = Name::from_slice(alloc, bytes.as_slice())?;
+        assert_eq!(rt; name.is_allowed(), want, "{count} of {byte}");
+        assert_eq!(rt; name.as_slice(), bytes.as_slice());
+        name.clear();
+        assert_eq!(rt; name.as_slice().len(), 0);
+    }
     Ok(())
 }
