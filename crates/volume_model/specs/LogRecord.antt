@@ -1,5 +1,6 @@
 -- The records of a transaction: which deltas may be logged, and in which order.
-use Rattle.std.specs.Prelude.{ℕ, ◌+◌, ◌/◌, ◌%◌, ◌==◌, nat_lt, nat_le, Bool, true, false, not, ◌&&◌, ◌||◌, if◌then◌else◌, Option, Some, None}
+use Rattle.std.specs.Prelude.{ℕ, ◌+◌, ◌/◌, ◌%◌, ◌==◌, nat_lt, nat_le, Bool, true, false, not, ◌&&◌, ◌||◌, if◌then◌else◌, List, [], ◌∷◌, Option, find, sum_by}
+use Rattle.lufs_base.specs.Kinds.{has_bytes}
 use Rattle.lufs_base.specs.Layout.{blocks_of, region_of}
 use Rattle.lufs_base.specs.declared.geometry.Geometry.{Geometry}
 use Rattle.lufs_base.specs.declared.geometry.Region.{Region}
@@ -8,26 +9,33 @@ use Rattle.lufs_base.specs.declared.delta.Delta.{Delta}
 use Rattle.lufs_base.specs.declared.delta.DeltaKind.{DeltaKind}
 use Rattle.lufs_base.specs.declared.delta.DeltaKind.TheVariants.{Group, Inode, Chunk, Pointers, Zero, LinkText, Cancel}
 
--- the kind that a record's type names; 8 is the commit record
-abbrev pub kind_of : ℕ → Option DeltaKind
-kind_of type =
-    if type == 1 then Some Group else (if type == 2 then Some Inode else (if type == 3 then Some Chunk
-    else (if type == 4 then Some Pointers else (if type == 5 then Some Zero else (if type == 6 then Some LinkText
-    else (if type == 7 then Some Cancel else None))))))
+-- the type of a record of this kind; that of a commit record is 8
+abbrev pub type_of : DeltaKind → ℕ
+type_of Group = 1
+type_of Inode = 2
+type_of Chunk = 3
+type_of Pointers = 4
+type_of Zero = 5
+type_of LinkText = 6
+type_of Cancel = 7
 
--- whether the bytes of a delta stand in the log
-abbrev pub has_bytes : DeltaKind → Bool
-has_bytes Group = true
-has_bytes Inode = true
-has_bytes Chunk = true
-has_bytes Pointers = true
-has_bytes Zero = false
-has_bytes LinkText = true
-has_bytes Cancel = false
+abbrev pub commit_type : ℕ
+commit_type = 8
+
+abbrev pub all_kinds : List DeltaKind
+all_kinds = Group ∷ Inode ∷ Chunk ∷ Pointers ∷ Zero ∷ LinkText ∷ Cancel ∷ []
+
+-- the kind that a record's type names
+abbrev pub kind_of : ℕ → Option DeltaKind
+kind_of type = find (λ kind. type == type_of kind) all_kinds
 
 -- how many bytes of a delta stand in the log
 abbrev pub logged_len : DeltaKind → ℕ → ℕ
 logged_len kind len = if has_bytes kind then len else 0
+
+-- the bytes that deltas take in the log, with the 16 bytes at the head of each
+abbrev pub delta_bytes : List Delta → ℕ
+delta_bytes deltas = sum_by (λ d. 16 + logged_len d.kind d.len) deltas
 
 -- which blocks deltas of a kind lie on
 abbrev pub is_home_of : DeltaKind → Region → Bool

@@ -1,12 +1,11 @@
 -- A run: the payload of the sectors of one transaction, as far as they stand in the ring.
 use Rattle.std.specs.Prelude.{ℕ, zero, suc, ◌+◌, ◌==◌, nat_lt, Bool, ◌&&◌, if◌then◌else◌, List, [], ◌∷◌, ◌++◌, length, take, drop, Option, Some, None}
 use Rattle.std.specs.List.{list_all}
-use Rattle.lufs_base.specs.Fields.{u32_at, u64_at}
+use Rattle.lufs_base.specs.Fields.{u32_at, u64_at, are_zeros}
 use Rattle.lufs_base.specs.declared.geometry.Geometry.{Geometry}
 use Rattle.lufs_base.specs.declared.delta.Delta.{Delta}
 use Rattle.lufs_base.specs.declared.delta.DeltaKind.{DeltaKind}
-use Rattle.volume_model.specs.Image.{are_zeros}
-use Rattle.volume_model.specs.LogRecord.{kind_of, logged_len, may_be_logged, may_precede}
+use Rattle.volume_model.specs.LogRecord.{commit_type, kind_of, logged_len, may_be_logged, may_precede}
 
 -- A whole run is a committed transaction; a short one ends before its commit record, and a bad one
 -- breaks a rule of the log first.
@@ -50,7 +49,7 @@ front_of_kind g before bytes (Some kind) =
 unfoldable pub front_of : Geometry → ℕ → List Delta → List ℕ → Front
 front_of g tid before bytes =
     if nat_lt (length bytes) 16 then Cut
-    else (if u32_at bytes 12 == 8 then (if is_commit tid before bytes then Commit else Wrong)
+    else (if u32_at bytes 12 == commit_type then (if is_commit tid before bytes then Commit else Wrong)
     else front_of_kind g before bytes (kind_of (u32_at bytes 12)))
 
 -- the run whose next record is this; `more` is the run behind a delta

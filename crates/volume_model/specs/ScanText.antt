@@ -1,20 +1,15 @@
 -- What `scan` prints of a log.
-use Rattle.std.specs.Prelude.{ℕ, ◌+◌, List, [], ◌∷◌, ◌++◌, length, sum_by, codes, Option, Some, None, option_and_then}
+use Rattle.std.specs.Prelude.{ℕ, List, [], ◌∷◌, ◌++◌, length, sum_by, codes, Option, Some, None, option_and_then}
 use Rattle.std.specs.List.{flat_map}
 use Rattle.std.specs.Fmt.{decimal}
 use Rattle.lufs_base.specs.Layout.{ring_of}
 use Rattle.lufs_base.specs.declared.geometry.Geometry.{Geometry}
-use Rattle.lufs_base.specs.declared.delta.Delta.{Delta}
 use Rattle.volume_model.specs.declared.log.Header.{Header}
 use Rattle.volume_model.specs.declared.log.Tx.{Tx}
 use Rattle.volume_model.specs.Image.{Image}
 use Rattle.volume_model.specs.Superblock.{geometry_of}
-use Rattle.volume_model.specs.LogRecord.{logged_len}
+use Rattle.volume_model.specs.LogRecord.{delta_bytes}
 use Rattle.volume_model.specs.Log.{Log, NoHeader, Behind, Listed, BadRun, log_of}
-
--- the bytes that the deltas of a transaction take in the log, with the 16 bytes at the head of each
-abbrev pub delta_bytes : List Delta → ℕ
-delta_bytes deltas = sum_by (λ d. 16 + logged_len d.kind d.len) deltas
 
 -- a word and a number behind it
 abbrev pub field : List ℕ → ℕ → List ℕ

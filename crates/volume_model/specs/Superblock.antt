@@ -1,9 +1,9 @@
 -- The superblock: sector 16 of the volume.
-use Rattle.std.specs.Prelude.{ℕ, ◌+◌, ◌*◌, ◌/◌, ◌%◌, ◌==◌, nat_le, Bool, ◌&&◌, if◌then◌else◌, List, drop, Option, Some, None}
-use Rattle.lufs_base.specs.Fields.{u32_at}
+use Rattle.std.specs.Prelude.{ℕ, ◌+◌, ◌*◌, ◌/◌, ◌%◌, ◌==◌, nat_le, Bool, ◌&&◌, if◌then◌else◌, List, ◌++◌, drop, replicate, Option, Some, None}
+use Rattle.lufs_base.specs.Fields.{u32_at, are_zeros, field_bytes}
 use Rattle.lufs_base.specs.Layout.{blocks_of}
 use Rattle.lufs_base.specs.declared.geometry.Geometry.{Geometry}
-use Rattle.volume_model.specs.Image.{Image, sector, sectors_of, are_zeros}
+use Rattle.volume_model.specs.Image.{Image, sector, sectors_of}
 
 -- a number in its range that is a multiple of a step
 abbrev pub is_step : (low high step : ℕ) → ℕ → Bool
@@ -32,3 +32,9 @@ super_of s sectors = if is_super s sectors then Some (named_geometry s) else Non
 -- the geometry of a volume, if the image is one
 abbrev pub geometry_of : Image → Option Geometry
 geometry_of image = super_of (sector image 16) (sectors_of image)
+
+-- the sector that a superblock is written as
+unfoldable pub super_bytes : Geometry → List ℕ
+super_bytes g =
+    field_bytes 4 0x00011954 ++ (field_bytes 4 g.version ++ (field_bytes 4 g.groups ++ (field_bytes 4 g.bpg ++ (field_bytes 4 g.ipg
+    ++ (field_bytes 4 g.log ++ (field_bytes 4 (blocks_of g) ++ replicate 484 0))))))

@@ -1,12 +1,15 @@
 -- Small logs, to compute the definitions on: the smallest volume, epoch 3, head 0, and transaction 1
--- in ring place 0, which writes the root's inode record.
-use Rattle.std.specs.Prelude.{ℕ, ◌==◌, if◌then◌else◌, List, [], ◌∷◌, ◌++◌, replicate, take}
+-- in ring place 0, which writes the root's inode record. And a record of a disk of two sectors, and small replays.
+use Rattle.std.specs.Prelude.{ℕ, ◌==◌, if◌then◌else◌, List, [], ◌∷◌, ◌++◌, length, replicate, take}
 use Rattle.lufs_base.specs.Fields.{field_bytes}
 use Rattle.lufs_base.specs.declared.geometry.Geometry.{Geometry}
-use Rattle.lufs_base.specs.declared.delta.DeltaKind.TheVariants.{Inode}
+use Rattle.lufs_base.specs.declared.delta.DeltaKind.TheVariants.{Inode, Zero, LinkText, Cancel}
+use Rattle.volume_model.specs.declared.device_call.DeviceCall.TheVariants.{Write, Flush}
 use Rattle.volume_model.specs.declared.log.Header.{Header}
 use Rattle.volume_model.specs.declared.log.Tx.{Tx}
+use Rattle.lufs_base.specs.declared.delta.Delta.{Delta}
 use Rattle.volume_model.specs.Log.{Log, log_with}
+use Rattle.volume_model.specs.Record.{Record}
 
 -- one group of 64 blocks and 32 inodes, and a log of 256 sectors
 abbrev pub smallest : Geometry
@@ -59,3 +62,27 @@ root_tx = record {
   sectors = 1;
   deltas = record { kind = Inode; home = 0x24100; len = 128; bytes = root_record } ∷ [];
 }
+
+-- a sector that one byte fills
+abbrev pub filled : ℕ → List ℕ
+filled byte = replicate 512 byte
+
+-- Sector 0 is written and the disk is flushed. Then both sectors are written, and the second one once more.
+abbrev pub two_sectors : Record
+two_sectors = record {
+  opening = filled 0 ++ filled 1;
+  calls = Write 0 (filled 7) ∷ Flush ∷ Write 0 (filled 8 ++ filled 9) ∷ Write 1 (filled 10) ∷ [];
+}
+
+-- a link text in block 0
+abbrev pub text_at_0 : List ℕ → Delta
+text_at_0 bytes = record { kind = LinkText; home = 0; len = length bytes; bytes = bytes }
+
+abbrev pub zero_block_0 : Delta
+zero_block_0 = record { kind = Zero; home = 0; len = 4096; bytes = [] }
+
+abbrev pub cancel_0 : Delta
+cancel_0 = record { kind = Cancel; home = 0; len = 4096; bytes = [] }
+
+abbrev pub tx_of : (tid : ℕ) → List Delta → Tx
+tx_of tid deltas = record { tid = tid; first = tid; sectors = 1; deltas = deltas }

@@ -14,6 +14,15 @@ pub struct Header {
     pub tid: u32,
 }
 
+/// The trailer of a log sector, in its last 8 bytes (`docs/FORMAT.md`, "Log sectors").
+#[derive(Clone, Copy, Debug, PartialEq, Eq, Hash)]
+pub struct Trailer {
+    /// The transaction that the sector is of.
+    pub tid: u32,
+    /// The epoch in which it was written.
+    pub ident: u32,
+}
+
 /// A committed transaction of the log.
 #[derive(Debug, Drop)]
 pub struct Tx {

@@ -1,14 +1,17 @@
-// The definitions computed on small logs, so that a reader sees what they say.
+// The definitions computed on small logs, records and images, so that a reader sees what they say.
 ghost use Rattle.std.specs.Prelude.{◌≡◌, ◌∷◌, ◌++◌, [], codes, replicate, Some, None};
-ghost use Rattle.volume_model.specs.Superblock.{super_of};
+ghost use Rattle.volume_model.specs.Superblock.{super_of, super_bytes};
 ghost use Rattle.volume_model.specs.Log.{Listed, BadRun, NoHeader, Behind, log_with};
 ghost use Rattle.volume_model.specs.ScanText.{scan_text};
-ghost use Rattle.volume_model.specs.Worked.{smallest, superblock, header, header_sector, log_sector, root_delta, cut_chunk, commit, root_tx, log_of_sector};
+ghost use Rattle.volume_model.specs.Outcome.{kept_at, written_since, present_of};
+ghost use Rattle.volume_model.specs.Recovered.{replayed};
+ghost use Rattle.volume_model.specs.Worked.{smallest, superblock, header, header_sector, log_sector, root_delta, cut_chunk, commit, root_tx, log_of_sector, filled, two_sectors, text_at_0, zero_block_0, cancel_0, tx_of};
 
 /// A superblock of 99 blocks names a volume on a disk of 792 sectors, and none on a smaller one.
 pub fn superblocks()
     ensures fits { super_of superblock 792 ≡ Some smallest }
     ensures one_sector_short { super_of superblock 791 ≡ None }
+    ensures written { super_bytes smallest ≡ superblock }
 {}
 
 /// What the log is with this sector in the first place of the ring.
@@ -27,4 +30,26 @@ pub fn texts()
     ensures empty { scan_text smallest header [] ≡ codes "epoch 3 head 0 tid 1 ring 255\ncommitted 0 sectors 0\n" }
     ensures committed { scan_text smallest header (root_tx ∷ [])
         ≡ codes "epoch 3 head 0 tid 1 ring 255\ntx 1 sectors 1 deltas 1 bytes 144\ncommitted 1 sectors 1\n" }
+{}
+
+/// What the two sectors of a disk may hold after a crash: as kept, or as written since.
+pub fn values_after_crash()
+    ensures kept_at_first { kept_at two_sectors 0 ≡ filled 0 ++ filled 1 }
+    ensures kept_after_write { kept_at two_sectors 1 ≡ filled 0 ++ filled 1 }
+    ensures written_before_flush { written_since two_sectors 1 0 ≡ filled 7 ∷ [] }
+    ensures kept_by_flush { kept_at two_sectors 2 ≡ filled 7 ++ filled 1 }
+    ensures written_after_flush { written_since two_sectors 2 0 ≡ [] }
+    ensures kept_still { kept_at two_sectors 4 ≡ filled 7 ++ filled 1 }
+    ensures written_once { written_since two_sectors 4 0 ≡ filled 8 ∷ [] }
+    ensures written_twice { written_since two_sectors 4 1 ≡ filled 9 ∷ (filled 10 ∷ []) }
+    ensures present { present_of two_sectors ≡ filled 8 ++ filled 10 }
+{}
+
+/// What four bytes become by a replay.
+pub fn replays_of_four_bytes()
+    ensures one { replayed (1 ∷ 2 ∷ 3 ∷ 4 ∷ []) (tx_of 1 (text_at_0 (8 ∷ 9 ∷ []) ∷ []) ∷ []) ≡ 8 ∷ 9 ∷ 3 ∷ 4 ∷ [] }
+    ensures later_wins { replayed (1 ∷ 2 ∷ 3 ∷ 4 ∷ []) (tx_of 1 (text_at_0 (8 ∷ 9 ∷ []) ∷ []) ∷ tx_of 2 (text_at_0 (7 ∷ []) ∷ []) ∷ []) ≡ 7 ∷ 9 ∷ 3 ∷ 4 ∷ [] }
+    ensures zeros_below { replayed (1 ∷ 2 ∷ 3 ∷ 4 ∷ []) (tx_of 1 (zero_block_0 ∷ text_at_0 (8 ∷ 9 ∷ []) ∷ []) ∷ []) ≡ 8 ∷ 9 ∷ 0 ∷ 0 ∷ [] }
+    ensures cancelled { replayed (1 ∷ 2 ∷ 3 ∷ 4 ∷ []) (tx_of 1 (text_at_0 (8 ∷ 9 ∷ []) ∷ []) ∷ tx_of 2 (cancel_0 ∷ []) ∷ []) ≡ 1 ∷ 2 ∷ 3 ∷ 4 ∷ [] }
+    ensures written_again { replayed (1 ∷ 2 ∷ 3 ∷ 4 ∷ []) (tx_of 1 (cancel_0 ∷ []) ∷ tx_of 2 (text_at_0 (8 ∷ 9 ∷ []) ∷ []) ∷ []) ≡ 8 ∷ 9 ∷ 3 ∷ 4 ∷ [] }
 {}

@@ -1,0 +1,36 @@
+use Rattle.std.proofs.Common.{refl}
+use Rattle.volume_model.specs.LogHeader.{header_bytes}
+use Rattle.volume_model.specs.LogTx.{carrying}
+use Rattle.volume_model.proofs.worked_log.written.Goals as goal
+
+pub returns-clause-header : goal.returns-clause-header
+unfolding header_bytes carrying
+returns-clause-header c = refl
+
+pub returns-clause-one_delta : goal.returns-clause-one_delta
+unfolding header_bytes carrying
+returns-clause-one_delta c = refl
+
+pub returns-clause-no_deltas : goal.returns-clause-no_deltas
+unfolding header_bytes carrying
+returns-clause-no_deltas c = refl
+
+pub returns-clause-no_bytes : goal.returns-clause-no_bytes
+unfolding header_bytes carrying
+returns-clause-no_bytes c = refl
+
+pub returns-clause-full : goal.returns-clause-full
+unfolding header_bytes carrying
+returns-clause-full c = refl
+
+pub returns-clause-one_byte_more : goal.returns-clause-one_byte_more
+unfolding header_bytes carrying
+returns-clause-one_byte_more c = refl
+
+pub returns-clause-two_sectors : goal.returns-clause-two_sectors
+unfolding header_bytes carrying
+returns-clause-two_sectors c = refl
+
+pub returns-clause-read_back : goal.returns-clause-read_back
+unfolding header_bytes carrying
+returns-clause-read_back c = refl
