@@ -1,9 +1,10 @@
 -- What the calls of a disk do to what it tells.
-use Rattle.std.specs.Prelude.{◌≡◌, ◌<◌, ◌⊎◌, ℕ, ◌/◌, ◌%◌, List, length, Option, IfSome, option_map, is_some, Result, OnOk, MatchResult}
+use Rattle.std.specs.Prelude.{◌≡◌, ◌<◌, ◌⊎◌, ℕ, ◌/◌, ◌%◌, List, length, Option, IfSome, option_map, is_some, Contains, Result, OnOk, MatchResult}
 use Rattle.volume_model.specs.declared.device_call.DeviceCall.{DeviceCall}
 use Rattle.volume_model.specs.declared.device_call.DeviceCall.TheVariants.{Flush}
 use Rattle.volume_model.specs.Image.{Image, sector, sectors_from, overwritten}
-use Rattle.volume_model.specs.Record.{Record, with_call}
+use Rattle.volume_model.specs.Record.{Record, with_call, IsOfSectors}
+use Rattle.volume_model.specs.Outcome.{present_of, written_to, IsPartlyWritten}
 
 -- whole sectors, at least one
 abbrev pub IsWhole : ℕ → Type 0
@@ -12,11 +13,6 @@ IsWhole bytes = (0 < bytes) × (bytes % 512 ≡ 0)
 -- what was read is what stands there
 abbrev pub Reads : {T E : Type 0} → Option Image → ℕ → Result T E → List ℕ → Type 0
 Reads present first result out = IfSome present (λ image. OnOk result (out ≡ sectors_from image first (length out / 512)))
-
--- each sector is old, or new as the write was to leave it
-pub record IsPartlyWritten (first : ℕ) (bytes : List ℕ) (old new : Image) : Type 0 where
-  pub size : length new ≡ length old
-  pub each : (k : ℕ) → (sector new k ≡ sector old k) ⊎ (sector new k ≡ sector (overwritten old first bytes) k)
 
 -- the content after a write: all of it at Ok, and else some of its sectors
 pub record Writes {T E : Type 0} (first : ℕ) (bytes : List ℕ) (result : Result T E) (old new : Option Image) : Type 0 where
@@ -34,3 +30,15 @@ Lists call result unchanged old new = MatchResult result (λ _. IsListed call ol
 -- a flush is listed where it succeeds
 abbrev pub ListsFlush : {T E : Type 0} → Result T E → Option Record → Option Record → Type 0
 ListsFlush result old new = MatchResult result (λ _. IsListed Flush old new) (λ _. new ≡ old)
+
+-- What stands on a disk after these calls, of which some may have failed: each sector as it was at first, or as a
+-- write was to leave it. While no call of the disk has failed, it is what the calls leave.
+pub record GoesWith (r : Record) (faults : ℕ) (image : Image) : Type 0 where
+  pub record_is : IsOfSectors r
+  pub size : length image ≡ length r.opening
+  pub each : (k : ℕ) → (sector image k ≡ sector r.opening k) ⊎ Contains (written_to k r.calls) (sector image k)
+  pub last : faults ≡ 0 → image ≡ present_of r
+
+-- the content that is told goes with the calls that are told
+abbrev pub IsTold : Option Record → Option Image → ℕ → Type 0
+IsTold listed present faults = IfSome listed (λ r. IfSome present (GoesWith r faults))

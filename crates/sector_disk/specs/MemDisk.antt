@@ -40,6 +40,10 @@ abbrev pub opening_of : Option (Vec ℕ Global) → List ℕ → Image
 opening_of None image = image
 opening_of (Some kept) image = kept.items
 
+-- what a disk of these parts tells of its listed calls
+abbrev pub told_record : Option (Vec ℕ Global) → List ℕ → List DeviceCall → Record
+told_record opening image calls = record { opening = opening_of opening image; calls = calls }
+
 -- a read was called, and failed or not
 abbrev pub after_read : Bool → State → State
 after_read failed s = record s { reads = counted s.reads; faults = if failed then counted s.faults else s.faults }

@@ -3,7 +3,7 @@ ghost use Rattle.lufs_base.specs.Causes.{HasCause};
 ghost use Rattle.volume_model.specs.Image.{Image, sectors_of};
 ghost use Rattle.volume_model.specs.Record.{Record};
 ghost use Rattle.volume_model.specs.declared.device_call.DeviceCall.TheVariants.{Write, Flush};
-ghost use Rattle.sector_disk.specs.Disk.{IsWhole, Reads, Writes, Lists, ListsFlush};
+ghost use Rattle.sector_disk.specs.Disk.{IsWhole, Reads, Writes, Lists, ListsFlush, IsTold};
 
 use lufs_base::DiskFault;
 
@@ -28,8 +28,10 @@ pub trait Disk: Drop {
     fn sectors(&self) -> u64
         ensures { result ≡ sectors self.now };
 
+    /// The content of a disk that tells its calls goes with them.
     fn calls(&self) -> u64
-        ensures { result ≡ calls self.now };
+        ensures value { result ≡ calls self.now }
+        ensures told { IsTold (listed self.now) (present self.now) (faults self.now) };
 
     fn faults(&self) -> u64
         ensures { result ≡ faults self.now };

@@ -1,12 +1,17 @@
-//! Disks of sectors: what each call of a disk may do, and a disk in memory for tests.
+//! Disks of sectors: what each call of a disk may do, and disks in memory.
 #![tactic(auto)]
 
+mod crash;
 mod disk;
+mod image;
 mod mem_disk;
+mod sure_disk;
 
+pub use crash::{CrashError, chosen_sectors};
 pub use disk::Disk;
 pub use lufs_base::DiskFault;
 pub use mem_disk::{Fail, MemDisk};
+pub use sure_disk::SureDisk;
 pub use volume_model::DeviceCall;
 
 #[cfg(test)]

@@ -1,12 +1,17 @@
-ghost use Rattle.std.specs.Prelude.{◌≡◌, ◌≤◌, ◌<◌, ◌⊎◌, ◌↔◌, ℕ, ◌+◌, ◌*◌, ◌%◌, ◌/◌, [], ◌∷◌, ◌++◌, length, IfSome, IsSome, Some, IsErr, is_ok, is_err, if◌then◌else◌, OnOk, OnErr, List, Contains, IsTrue};
+ghost use Rattle.std.specs.Prelude.{◌≡◌, ◌≤◌, ◌<◌, ◌⊎◌, ◌↔◌, ℕ, ◌+◌, ◌*◌, ◌%◌, ◌/◌, [], ◌∷◌, ◌++◌, length, IfSome, IsSome, Some, IsErr, is_ok, is_err, if◌then◌else◌, OnOk, OnErr, List, Contains, IsTrue, IfOk, IfErr, Ok, Err};
+ghost use Rattle.volume_model.specs.Outcome.{Outcome};
+ghost use Rattle.sector_disk.specs.Chosen.{crash_of};
 ghost use Rattle.lufs_base.specs.Causes.{HasCause, Rose, counted};
 ghost use Rattle.volume_model.specs.Image.{sectors_of, overwritten};
 ghost use Rattle.volume_model.specs.declared.device_call.DeviceCall.TheVariants.{Write, Flush};
 ghost use Rattle.sector_disk.specs.Disk.{IsWhole, Reads, Writes, Lists, ListsFlush};
-ghost use Rattle.sector_disk.specs.MemDisk.{new_state, opening_of, starved_more, faulted_more, after_read, after_write, after_flush};
+ghost use Rattle.sector_disk.specs.MemDisk.{new_state, opening_of, starved_more, faulted_more, after_read, after_write, after_flush, record_of};
 
-use crate::Disk;
+use crate::crash::crash_image;
+use crate::image::put;
+use crate::{CrashError, Disk};
 use lufs_base::{Bytes, DiskFault, Mem};
+use std::alloc::Global;
 use std::marker::Model;
 use volume_model::DeviceCall;
 
@@ -34,8 +39,8 @@ pub struct MemDisk {
 }
 
 impl Model for MemDisk {
-    ghost use Rattle.std.specs.Prelude.{◌≡◌, ◌%◌, length};
-    ghost use Rattle.sector_disk.specs.MemDisk.{State, opening_of};
+    ghost use Rattle.sector_disk.specs.Disk.{GoesWith};
+    ghost use Rattle.sector_disk.specs.MemDisk.{State, opening_of, told_record};
 
     ghost Value = { State };
 
@@ -51,7 +56,7 @@ impl Model for MemDisk {
       starved = d.starved;
     } };
 
-    ghost invariant = { λ d. length d.image.items % 512 ≡ 0 };
+    ghost invariant = { λ d. GoesWith (told_record d.opening d.image.items d.calls.items) d.faults d.image.items };
 }
 
 // Whether the call is among those that are to fail.
@@ -97,6 +102,23 @@ impl MemDisk {
             faults: 0,
             starved: 0,
         }
+    }
+
+    /// What a crash after the first n listed calls leaves, where each sector that `choice` names has its j-th value
+    /// since the last flush, from 1, and every other sector its value at that flush. Where no flush is among these
+    /// calls, the first image counts as one. Of two pairs that name one sector the later counts. `NoSuch` is the first
+    /// pair whose value isn't there, also of a sector past the disk.
+    pub fn crash(&self, alloc: Global, n: u64, choice: &[(u64, u32)]) -> Result<Vec<u8>, CrashError>
+        requires { n ≤ length self.now.calls }
+        ensures ok { IfOk result (λ image. crash_of (record_of self.now) n choice.now ≡ Ok image.items) }
+        ensures err { IfErr result (λ e. (e ≡ CrashError.Mem) ⊎ (crash_of (record_of self.now) n choice.now ≡ Err e)) }
+        ensures outcome { IfOk result (λ image. Outcome (record_of self.now) n image.items) }
+    {
+        let opening = match &self.opening {
+            Some(kept) => kept.as_slice(),
+            None => self.image.as_slice(),
+        };
+        crash_image(alloc, opening, &self.calls[..n as usize], choice)
     }
 
     // Counts a call that failed for want of memory.
@@ -188,8 +210,7 @@ impl Disk for MemDisk {
             self.faults = self.faults.saturating_add(1);
             return Err(DiskFault);
         }
-        let at = 512 * first as usize;
-        self.image[at..at + bytes.len()].copy_from_slice(bytes);
+        put(&mut self.image, first, bytes);
         Ok(())
     }
 

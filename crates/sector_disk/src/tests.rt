@@ -1,6 +1,6 @@
 ghost use Rattle.std.specs.Prelude.{◌≡◌, ◌≤◌, IfOk, length};
 
-use crate::{Disk, DiskFault, Fail, MemDisk};
+use crate::{CrashError, Disk, DiskFault, Fail, MemDisk, SureDisk};
 use lufs_base::Mem;
 use std::alloc::Global;
 
@@ -119,5 +119,83 @@ fn only_the_named_call_fails(rt: HostRuntime) -> Result<(), std::test::Fail> {
         assert_eq!(rt; disk.starved(), 0, "{fail:?}");
         assert_eq!(rt; ends(&mut disk)?, [sectors, sectors], "{fail:?}");
     }
+    Ok(())
+}
+
+// Six listed calls on sectors 0 to 3: two writes that overlap, a flush, and three writes of which the last one fails.
+fn six_calls(disk: &mut MemDisk) -> Result<(), DiskFault>
+    requires { length disk.old.image ≡ 2048 }
+    ensures { length disk.new.image ≡ 2048 }
+{
+    fill_two(disk, 0, 7)?;
+    fill_two(disk, 1, 8)?;
+    disk.flush()?;
+    fill_two(disk, 1, 9)?;
+    fill_two(disk, 2, 5)?;
+    fill_two(disk, 2, 6)
+}
+
+fn no_such(sector: u64, j: u32) -> Result<Sectors, CrashError> {
+    Err(CrashError::NoSuch { sector, j })
+}
+
+#[test]
+fn crashes(rt: HostRuntime) -> Result<(), std::test::Fail> {
+    let alloc = rt.alloc();
+    let mut disk = four_sectors(alloc, &[Fail::Write(5)])?;
+    assert!(rt; six_calls(&mut disk).is_err());
+    assert_eq!(rt; disk.calls(), 6);
+    for (n, choice, left) in [
+        // Before any call, and after the first two, of which none is behind a flush.
+        (0, &[][..], Ok([0, 1, 2, 3])),
+        (0, &[(0, 1)][..], no_such(0, 1)),
+        (1, &[][..], Ok([0, 1, 2, 3])),
+        (1, &[(0, 1)][..], Ok([7, 1, 2, 3])),
+        (1, &[(1, 1)][..], Ok([0, 7, 2, 3])),
+        (1, &[(1, 1), (0, 1)][..], Ok([7, 7, 2, 3])),
+        (1, &[(1, 2)][..], no_such(1, 2)),
+        (1, &[(2, 1)][..], no_such(2, 1)),
+        (2, &[][..], Ok([0, 1, 2, 3])),
+        (2, &[(1, 1)][..], Ok([0, 7, 2, 3])),
+        (2, &[(1, 2)][..], Ok([0, 8, 2, 3])),
+        (2, &[(0, 1), (1, 2), (2, 1)][..], Ok([7, 8, 8, 3])),
+        (2, &[(1, 3)][..], no_such(1, 3)),
+        (2, &[(1, 0)][..], no_such(1, 0)),
+        // The flush leaves one content.
+        (3, &[][..], Ok([7, 8, 8, 3])),
+        (3, &[(0, 1)][..], no_such(0, 1)),
+        // What was written behind it, with the write that failed.
+        (4, &[(2, 1)][..], Ok([7, 8, 9, 3])),
+        (4, &[(2, 2)][..], no_such(2, 2)),
+        (5, &[(2, 2)][..], Ok([7, 8, 5, 3])),
+        (6, &[][..], Ok([7, 8, 8, 3])),
+        (6, &[(1, 1), (2, 3), (3, 1)][..], Ok([7, 9, 6, 5])),
+        (6, &[(3, 2)][..], Ok([7, 8, 8, 6])),
+        (6, &[(1, 1), (2, 4), (3, 9)][..], no_such(2, 4)),
+        (6, &[(0, 1)][..], no_such(0, 1)),
+        (6, &[(4, 1)][..], no_such(4, 1)),
+    ] {
+        assert!(rt; n <= disk.calls());
+        let found = match disk.crash(alloc, n, choice) {
+            Ok(image) => {
+                assert_eq!(rt; image.len(), 2048, "{n} {choice:?}");
+                Ok([image[0], image[512], image[1024], image[2047]])
+            }
+            Err(e) => Err(e),
+        };
+        assert_eq!(rt; found, left, "{n} {choice:?}");
+    }
+    Ok(())
+}
+
+#[test]
+fn what_never_fails(rt: HostRuntime) -> Result<(), std::test::Fail> {
+    let mut disk = SureDisk::new(Vec::from_slice(rt.alloc(), &[1; 1024])?);
+    let mut out = [0xee; 1024];
+    disk.write(1, &[2; 512])?;
+    disk.flush()?;
+    disk.read(0, &mut out)?;
+    assert_eq!(rt; [out[0], out[511], out[512], out[1023]], [1, 1, 2, 2]);
+    assert_eq!(rt; (disk.sectors(), disk.calls(), disk.faults()), (2, 0, 0));
     Ok(())
 }

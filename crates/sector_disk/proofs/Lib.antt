@@ -1,0 +1,3 @@
+pub mod Told
+pub mod CrashSteps
+pub mod ChosenSectors
