@@ -1,0 +1,2 @@
+pub mod SuperblockTests
+pub mod SuperblockBytes
