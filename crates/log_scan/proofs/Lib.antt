@@ -1,8 +1,3 @@
-pub mod TestedValue
-pub mod SuperblockTests
-pub mod HeaderTests
-pub mod Order
-pub mod RunSteps
 pub mod RingSteps
 pub mod Listing
 pub mod RingTurn

@@ -11,9 +11,8 @@ use Rattle.lufs_base.specs.declared.delta.Delta.{Delta}
 use Rattle.volume_model.specs.declared.log.Header.{Header}
 use Rattle.volume_model.specs.declared.log.Tx.{Tx}
 use Rattle.volume_model.specs.LogRun.{Run, Short, Whole, run_of, run_behind, front_of}
-use Rattle.volume_model.specs.Image.{sector, sectors_of}
+use Rattle.volume_model.specs.Image.{sector, sectors_of, sectors_in}
 use Rattle.volume_model.specs.Log.{belongs_to, Transactions, Listed, BadRun, with_tx, row_of, payload_of, transactions_at, transactions_from}
-use Rattle.log_scan.specs.Ring.{sectors_in}
 use Rattle.log_scan.proofs.RingSteps.{length-row_of}
 
 -- the transactions with these in front

@@ -4,10 +4,10 @@ use Rattle.lufs_base.specs.Layout.{ring_of}
 use Rattle.lufs_base.specs.declared.geometry.Geometry.{Geometry}
 use Rattle.volume_model.specs.declared.log.Header.{Header}
 use Rattle.volume_model.specs.declared.log.Tx.{Tx}
-use Rattle.volume_model.specs.Image.{Image, sector, sectors_from}
+use Rattle.volume_model.specs.Image.{Image, sector, sectors_from, sectors_in}
 use Rattle.volume_model.specs.LogHeader.{header_of}
 use Rattle.volume_model.specs.Log.{Log, NoHeader, Behind, Transactions, transactions_from, ring_from, log_behind, log_with, log_of}
-use Rattle.log_scan.specs.Ring.{sectors_in, transactions_of}
+use Rattle.log_scan.specs.Ring.{transactions_of}
 use Rattle.log_scan.specs.Answers.{IsListing, IsScan}
 use Rattle.log_scan.specs.declared.log.ScanError.{ScanError}
 use Rattle.log_scan.specs.declared.log.ScanError.TheVariants.{Disk, BadHeader, BadLog, Mem}

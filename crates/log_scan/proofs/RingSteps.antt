@@ -4,9 +4,8 @@ use Rattle.std.specs.List.{prefix_len}
 use Rattle.std.proofs.lemmas.List.{length-take-le, get_or-drop, take_more, flat_map_more}
 use Rattle.std.proofs.lemmas.List.FromFn.{length-map-range_with_len, get_or-map-range_with_len}
 use Rattle.std.proofs.lemmas.List.Sums.{prefix_len-le-length, prefix_len-drop_yes, prefix_len-drop_no, prefix_len-drop_all}
-use Rattle.volume_model.specs.Image.{sector, sectors_of}
+use Rattle.volume_model.specs.Image.{sector, sectors_of, sectors_in}
 use Rattle.volume_model.specs.Log.{belongs_to, row_of, payload_of}
-use Rattle.log_scan.specs.Ring.{sectors_in}
 
 pub length-sectors_in : (bytes : List ℕ) → length (sectors_in bytes) ≡ sectors_of bytes
 length-sectors_in bytes = length-map-range_with_len (sector bytes) 0 (sectors_of bytes)

@@ -7,10 +7,9 @@ use Rattle.std.proofs.lemmas.List.FromFn.{fill_by_all}
 use borrow.Rule.Slice.PartMut.{put_mid}
 use Rattle.lufs_base.specs.Layout.{ring_of}
 use Rattle.lufs_base.specs.declared.geometry.Geometry.{Geometry}
-use Rattle.volume_model.specs.Image.{Image, sector, sectors_from, sectors_of}
+use Rattle.volume_model.specs.Image.{Image, sector, sectors_from, sectors_of, sectors_in}
 use Rattle.volume_model.specs.Log.{ring_from}
 use Rattle.sector_disk.specs.Disk.{Reads}
-use Rattle.log_scan.specs.Ring.{sectors_in}
 use Rattle.log_scan.proofs.RingSteps.{length-sectors_in, get_or-sectors_in}
 
 -- a sector of joined bytes

@@ -1,16 +1,16 @@
 ghost use Rattle.std.specs.Prelude.{◌≡◌, ◌<◌, ◌≤◌, ◌+◌, ◌*◌, ◌%◌, suc, length, drop, IfOk, OnOk, IfSome, IsErrOf};
 ghost use Rattle.lufs_base.specs.Causes.{Rose, HasCause};
 ghost use Rattle.lufs_base.specs.Layout.{IsGeometry, ring_of, blocks_of};
-ghost use Rattle.volume_model.specs.Image.{sector};
+ghost use Rattle.volume_model.specs.Image.{sector, sectors_in};
 ghost use Rattle.volume_model.specs.Log.{transactions_from, ring_from, log_of};
 ghost use Rattle.sector_disk.specs.Disk.{Reads};
 ghost use Rattle.log_scan.specs.declared.log.ScanError.TheVariants.{Disk, BadHeader, Mem};
-ghost use Rattle.log_scan.specs.Ring.{sectors_in, transactions_of};
+ghost use Rattle.log_scan.specs.Ring.{transactions_of};
 ghost use Rattle.log_scan.specs.Answers.{IsTx, IsListing, IsScan};
 
-use crate::records::{Run, RunError, read_run};
 use crate::runs::{SECTOR, join_payloads, row_len};
-use crate::{Header, Tx, TxList, read_header};
+use crate::{Header, Tx, TxList};
+use log_format::{Run, RunError, read_header, read_run};
 use lufs_base::{DiskFault, Geometry};
 use sector_disk::Disk;
 use std::alloc::{AllocError, Global};
@@ -39,10 +39,10 @@ impl From<DiskFault> for ScanError {
     }
 }
 
-impl From<crate::BadHeader> for ScanError {
+impl From<log_format::BadHeader> for ScanError {
     ghost from_gives = { λ _ e. e ≡ BadHeader };
 
-    fn from(_: crate::BadHeader) -> ScanError {
+    fn from(_: log_format::BadHeader) -> ScanError {
         ScanError::BadHeader
     }
 }

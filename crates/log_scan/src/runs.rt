@@ -1,9 +1,9 @@
 ghost use Rattle.std.specs.Prelude.{◌≡◌, ◌+◌, ◌*◌, ◌≤◌, length, take, drop, IfOk};
-ghost use Rattle.volume_model.specs.Image.{sector, sectors_of};
+ghost use Rattle.volume_model.specs.Image.{sector, sectors_of, sectors_in};
 ghost use Rattle.volume_model.specs.Log.{belongs_to, row_of, payload_of};
-ghost use Rattle.log_scan.specs.Ring.{sectors_in};
 
-use lufs_base::{Mem, get_u32};
+use log_format::read_trailer;
+use lufs_base::Mem;
 use std::alloc::Global;
 
 /// The bytes of a sector.
@@ -34,7 +34,8 @@ fn belongs_to(sector: &[u8], epoch: u32, tid: u32) -> bool
     requires { length sector.now ≡ 512 }
     ensures { result ≡ belongs_to epoch tid sector.now }
 {
-    get_u32(sector, PAYLOAD) == tid && get_u32(sector, PAYLOAD + 4) == epoch
+    let trailer = read_trailer(sector);
+    trailer.tid == tid && trailer.ident == epoch
 }
 
 /// How many sectors of the ring, from sector `at` on, belong to this transaction of this epoch.

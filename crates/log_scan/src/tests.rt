@@ -1,13 +1,18 @@
-ghost use Rattle.std.specs.Prelude.{IfSome};
-ghost use Rattle.lufs_base.specs.Layout.{IsGeometry};
-
-use crate::{ScanError, read_header, read_super, scan};
+use crate::{ScanError, scan};
 use lufs_base::{Geometry, put_u32};
 use sector_disk::{Disk, Fail, MemDisk};
 use std::alloc::Global;
 
 /// A word of 32 bits at a byte of a sector of the ring.
 type Word = (u32, u32, u32);
+
+const SMALLEST: Geometry = Geometry {
+    version: 1,
+    groups: 1,
+    bpg: 64,
+    ipg: 32,
+    log: 256,
+};
 
 /// Epoch 3, and transaction 1 in place 0: the root's inode record, and its commit.
 const ROOT: [Word; 9] = [
@@ -63,39 +68,6 @@ fn put_all(bytes: &mut [u8], words: &[(usize, u32)]) {
     }
 }
 
-// The superblock of one such volume.
-fn superblock(groups: u32, bpg: u32, ipg: u32, log: u32, blocks: u32) -> [u8; 512] {
-    let mut sector = [0; 512];
-    put_all(
-        &mut sector,
-        &[
-            (0, 0x11954),
-            (4, 1),
-            (8, groups),
-            (12, bpg),
-            (16, ipg),
-            (20, log),
-            (24, blocks),
-        ],
-    );
-    sector
-}
-
-fn smallest() -> Option<Geometry>
-    ensures { IfSome result IsGeometry }
-{
-    read_super(&superblock(1, 64, 32, 256, 99), 792).ok()
-}
-
-fn header_sector(epoch: u32, head: u32, tid: u32) -> [u8; 512] {
-    let mut sector = [0; 512];
-    put_all(
-        &mut sector,
-        &[(0, 0x4C55_4653), (4, epoch), (8, head), (12, tid)],
-    );
-    sector
-}
-
 // Writes a log of the smallest volume, with one more word in its ring.
 fn write_log(image: &mut [u8], head: u32, words: &[Word], change: Word) {
     put_all(
@@ -129,13 +101,10 @@ fn find(
         return Err(ScanError::Mem);
     }
     let mut disk = MemDisk::new(image, fails);
-    let Some(geometry) = smallest() else {
-        return Err(ScanError::Mem);
-    };
-    if disk.sectors() < 8 * u64::from(geometry.total()) {
+    if disk.sectors() < 8 * u64::from(SMALLEST.total()) {
         return Err(ScanError::Mem);
     }
-    let (_, txs) = scan(alloc, &mut disk, &geometry)?;
+    let (_, txs) = scan(alloc, &mut disk, &SMALLEST)?;
     Ok(
         txs.as_slice().first().map(|tx| Found {
             tid: tx.tid,
@@ -144,70 +113,6 @@ fn find(
             deltas: tx.deltas.len(),
         }),
     )
-}
-
-#[test]
-fn superblocks_at_their_edges(rt: HostRuntime) {
-    for (groups, bpg, ipg, log, blocks, want) in [
-        (1, 64, 32, 256, 99, true),
-        (64, 2048, 1024, 65536, 139267, true),
-        (0, 64, 32, 256, 35, false),
-        (65, 64, 32, 256, 4195, false),
-        (1, 56, 32, 256, 91, false),
-        (1, 68, 32, 256, 103, false),
-        (1, 2056, 32, 256, 2091, false),
-        (1, 64, 0, 256, 99, false),
-        (1, 64, 48, 256, 99, false),
-        (1, 64, 1056, 256, 99, false),
-        (1, 64, 32, 248, 98, false),
-        (1, 64, 32, 260, 99, false),
-        (1, 64, 32, 65544, 8260, false),
-    ] {
-        let sector = superblock(groups, bpg, ipg, log, blocks);
-        let is_super = read_super(&sector, 8 * u64::from(blocks)).is_ok();
-        assert_eq!(rt; is_super, want, "{groups} {bpg} {ipg} {log}");
-    }
-    for (at, word, sectors, want) in [
-        (28, 0, 792, true),
-        (28, 0, 791, false),
-        (0, 0x11955, 792, false),
-        (4, 2, 792, false),
-        (24, 98, 792, false),
-        (28, 1, 792, false),
-        (508, 1, 792, false),
-    ] {
-        let mut sector = superblock(1, 64, 32, 256, 99);
-        put(&mut sector, at, word);
-        assert_eq!(rt;
-            read_super(&sector, sectors).is_ok(),
-            want,
-            "{at} {word} {sectors}"
-        );
-    }
-}
-
-#[test]
-fn headers_at_their_edges(rt: HostRuntime) -> Result<(), std::test::Fail> {
-    let geometry = smallest().ok_or("no geometry")?;
-    for (at, word, want) in [
-        (16, 0, true),
-        (0, 0x4C55_4652, false),
-        (4, 0, false),
-        (8, 254, true),
-        (8, 255, false),
-        (12, 0, false),
-        (16, 1, false),
-        (508, 1, false),
-    ] {
-        let mut sector = header_sector(3, 0, 1);
-        put(&mut sector, at, word);
-        assert_eq!(rt;
-            read_header(&geometry, &sector).is_ok(),
-            want,
-            "{at} {word}"
-        );
-    }
-    Ok(())
 }
 
 #[test]

@@ -1,7 +1,7 @@
 use Rattle.std.proofs.Common.{ℕ, ◌+◌, drop, sym, ap, ◌∙◌, arith}
 use Rattle.volume_model.specs.LogRun.{Whole, Short, Bad}
 use Rattle.volume_model.specs.Log.{BadRun, with_tx, transactions_from}
-use Rattle.log_scan.specs.Ring.{sectors_in}
+use Rattle.volume_model.specs.Image.{sectors_in}
 use Rattle.log_scan.proofs.Listing.{by_run, whole_has_sectors}
 use Rattle.log_scan.proofs.log.read_tx.Goals as goal
 

@@ -4,7 +4,7 @@ use Rattle.lufs_base.specs.Fields.{AreBytes}
 use Rattle.lufs_base.specs.Layout.{ring_of}
 use Rattle.volume_model.specs.declared.log.Tx.{Tx}
 use Rattle.volume_model.specs.Log.{Transactions, Listed, transactions_from}
-use Rattle.log_scan.specs.Ring.{sectors_in}
+use Rattle.volume_model.specs.Image.{sectors_in}
 use Rattle.log_scan.proofs.Listing.{with_front, listing_more, no_number_above, sectors_have_bytes}
 use Rattle.log_scan.proofs.log.transactions.Goals as goal
 

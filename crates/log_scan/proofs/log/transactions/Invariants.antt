@@ -1,7 +1,7 @@
 use Rattle.std.proofs.Common.{◌≡◌, ◌≤◌, ◌-◌, suc, length, drop}
 use Rattle.lufs_base.specs.Layout.{ring_of}
 use Rattle.volume_model.specs.Log.{transactions_from}
-use Rattle.log_scan.specs.Ring.{sectors_in}
+use Rattle.volume_model.specs.Image.{sectors_in}
 use Rattle.log_scan.proofs.Listing.{with_front}
 use Rattle.log_scan.proofs.log.transactions.Given as goal
 

@@ -1,0 +1,12 @@
+pub mod HeaderTests
+pub mod HeaderBytes
+pub mod Order
+pub mod RunSteps
+pub mod Placed
+pub mod SectorSteps
+pub mod TxRecords
+pub mod TxSize
+pub mod RunRead
+pub mod SectorsBack
+pub mod TxRead
+pub mod WholeRun

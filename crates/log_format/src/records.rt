@@ -1,0 +1,221 @@
+ghost use Rattle.std.specs.Prelude.{◌≡◌, ◌<◌, ◌≤◌, ℕ, List, length, IfOk};
+ghost use Rattle.lufs_base.specs.Layout.{IsGeometry};
+ghost use Rattle.volume_model.specs.LogRecord.{is_home_of, is_part_of_block, may_be_logged, is_zero_block, is_cancel, may_precede};
+ghost use Rattle.lufs_base.specs.declared.delta.Delta.{Delta};
+ghost use Rattle.lufs_base.specs.declared.geometry.Geometry.{Geometry};
+ghost use Rattle.volume_model.specs.LogRun.{Whole, is_commit, front_of, run_of};
+ghost use Rattle.volume_model.specs.LogTx.{AreLoggable};
+ghost use Rattle.log_format.specs.declared.records.RunError.TheVariants.{Mem};
+ghost use Rattle.log_format.specs.InOrder.{InOrder, last_of, may_stand_behind};
+ghost use Rattle.log_format.specs.Answers.{IsFront, LoggedIsNext, IsRun};
+
+use crate::kinds::{COMMIT, HEAD, kind_of, logged_len};
+use lufs_base::{
+    BlockNo, Bytes, Delta, DeltaKind, DeltaList, Geometry, Mem, Region, are_zeros, get_u32, get_u64,
+};
+use std::alloc::Global;
+
+/// The bytes of a block.
+const BLOCK: u64 = 4096;
+
+/// What the payload of a run is.
+#[derive(Debug, Drop)]
+pub enum Run {
+    /// A committed transaction of these deltas.
+    Whole(DeltaList),
+    /// The ring ends the run before its commit record.
+    Short,
+}
+
+/// Why there is no run.
+#[derive(Clone, Copy, Debug, PartialEq, Eq)]
+pub enum RunError {
+    /// A record breaks a rule of the log.
+    Bad,
+    /// Memory was wanted.
+    Mem,
+}
+
+impl From<lufs_base::Mem> for RunError {
+    ghost from_gives = { λ _ e. e ≡ Mem };
+
+    fn from(_: lufs_base::Mem) -> RunError {
+        RunError::Mem
+    }
+}
+
+// What stands at the front of the rest of a payload.
+#[derive(Debug, Drop)]
+enum Front {
+    Logged(Delta),
+    Commit,
+    // The bytes end before the record does.
+    Cut,
+    // A record that breaks a rule.
+    Wrong,
+}
+
+// Whether deltas of a kind lie on such blocks.
+fn is_home_of(kind: DeltaKind, region: Region) -> bool
+    ensures { result ≡ is_home_of kind region }
+{
+    match kind {
+        DeltaKind::Group => matches!(region, Region::GroupBlock(_)),
+        DeltaKind::Inode => matches!(region, Region::Inodes(_)),
+        _ => matches!(region, Region::Body(_)),
+    }
+}
+
+// Whether a delta of a kind may lie at this place of its block, with this length.
+fn is_part_of_block(kind: DeltaKind, place: u32, len: u32) -> bool
+    requires { place < 4096 }
+    ensures { result ≡ is_part_of_block kind place len }
+{
+    match kind {
+        DeltaKind::Group => place == 0 && len == 416,
+        DeltaKind::Inode => place % 128 == 0 && len == 128,
+        DeltaKind::Chunk => place % 512 == 0 && len == 512,
+        DeltaKind::Pointers => place % 4 == 0 && len % 4 == 0 && 4 <= len && len <= 4096 - place,
+        DeltaKind::Zero => place == 0 && len == 4096,
+        DeltaKind::LinkText => place == 0 && 1 <= len && len <= 1024,
+        DeltaKind::Cancel => place == 0 && len == 4096,
+    }
+}
+
+// Whether a delta of this kind may have this home and this length.
+#[tactic(auto, unfolding(volume_model::specs::LogRecord::may_be_logged))]
+fn may_be_logged(g: &Geometry, kind: DeltaKind, home: u64, len: u32) -> bool
+    requires { IsGeometry g.now }
+    ensures { result ≡ may_be_logged g.now kind home len }
+{
+    if home / BLOCK >= u64::from(g.total()) {
+        return false;
+    }
+    let region = g.region(BlockNo((home / BLOCK) as u32));
+    is_home_of(kind, region) && is_part_of_block(kind, (home % BLOCK) as u32, len)
+}
+
+fn is_zero_block(kind: DeltaKind) -> bool
+    ensures { result ≡ is_zero_block kind }
+{
+    matches!(kind, DeltaKind::Zero)
+}
+
+fn is_cancel(kind: DeltaKind) -> bool
+    ensures { result ≡ is_cancel kind }
+{
+    matches!(kind, DeltaKind::Cancel)
+}
+
+// Whether a delta may stand before another of this kind and home.
+#[tactic(auto, unfolding(volume_model::specs::LogRecord::may_precede))]
+fn may_precede(d: &Delta, kind: DeltaKind, home: u64) -> bool
+    ensures { result ≡ may_precede d.now kind home }
+{
+    if d.home > home {
+        return false;
+    }
+    if d.home == home && !(is_zero_block(d.kind) && !is_zero_block(kind)) {
+        return false;
+    }
+    if d.kind.has_bytes() && kind.has_bytes() && u64::from(d.len) > home - d.home {
+        return false;
+    }
+    !(is_cancel(d.kind) || is_cancel(kind)) || d.home / BLOCK != home / BLOCK
+}
+
+// Whether the bytes are the commit record behind these deltas, with nothing but zeros behind it up to
+// the end of its sector, the last of the run.
+fn is_commit(tid: u32, before: &[Delta], bytes: &[u8]) -> bool
+    requires { 16 ≤ length bytes.now }
+    ensures { result ≡ is_commit tid before.now bytes.now }
+{
+    get_u64(bytes, 0) == u64::from(tid)
+        && get_u32(bytes, 8) as usize == before.len()
+        && bytes.len() - HEAD < 504
+        && are_zeros(&bytes[HEAD..])
+}
+
+// Whether a delta of this kind and home may stand behind the last of these.
+fn may_stand_behind_last(before: &[Delta], kind: DeltaKind, home: u64) -> bool
+    ensures { result ≡ may_stand_behind (last_of before.now) kind home }
+{
+    match before.last() {
+        None => true,
+        Some(d) => may_precede(d, kind, home),
+    }
+}
+
+// What stands at the front of the bytes, behind these deltas of the transaction. Only the last of them
+// is looked at, since what may stand behind it may stand behind each.
+#[tactic(auto, unfolding(volume_model::specs::LogRun::front_of))]
+fn read_front(
+    alloc: Global,
+    g: &Geometry,
+    tid: u32,
+    before: &[Delta],
+    bytes: &[u8],
+) -> Result<Front, Mem>
+    requires geometry { IsGeometry g.now }
+    requires order { InOrder g.now before.now }
+    ensures value { IfOk result (IsFront (front_of g.now tid before.now bytes.now)) }
+    ensures next { IfOk result (LoggedIsNext g.now before.now bytes.now) }
+{
+    if bytes.len() < HEAD {
+        return Ok(Front::Cut);
+    }
+    let home = get_u64(bytes, 0);
+    let len = get_u32(bytes, 8);
+    let record_type = get_u32(bytes, 12);
+    if record_type == COMMIT {
+        if is_commit(tid, before, bytes) {
+            return Ok(Front::Commit);
+        }
+        return Ok(Front::Wrong);
+    }
+    let Some(kind) = kind_of(record_type) else {
+        return Ok(Front::Wrong);
+    };
+    if !may_be_logged(g, kind, home, len) {
+        return Ok(Front::Wrong);
+    }
+    if !may_stand_behind_last(before, kind, home) {
+        return Ok(Front::Wrong);
+    }
+    let size = logged_len(kind, len) as usize;
+    if bytes.len() - HEAD < size {
+        return Ok(Front::Cut);
+    }
+    let logged = Bytes::from_slice(alloc, &bytes[HEAD..HEAD + size])?;
+    Ok(Front::Logged(Delta {
+        kind,
+        home,
+        len,
+        bytes: logged,
+    }))
+}
+
+/// Reads the payload of a run of transaction `tid` (`docs/FORMAT.md`, "Log records").
+pub fn read_run(alloc: Global, g: &Geometry, tid: u32, payload: &[u8]) -> Result<Run, RunError>
+    requires { IsGeometry g.now }
+    ensures { IsRun (run_of g.now tid payload.now) result }
+{
+    let mut deltas = DeltaList::new(alloc);
+    let mut at = 0;
+    loop {
+        match read_front(alloc, g, tid, deltas.as_slice(), &payload[at..])? {
+            Front::Logged(delta) => {
+                at += HEAD + logged_len(delta.kind, delta.len) as usize;
+                deltas.push(delta)?;
+            }
+            Front::Commit => return Ok(Run::Whole(deltas)),
+            Front::Cut => return Ok(Run::Short),
+            Front::Wrong => return Err(RunError::Bad),
+        }
+    }
+}
+
+/// The deltas of a run that is whole meet the table and the order of the log.
+pub fn whole_run_is_loggable()
+    ensures { (g : Geometry) (tid : ℕ) (payload : List ℕ) (deltas : List Delta) → run_of g tid payload ≡ Whole deltas → AreLoggable g deltas }
+{}
