@@ -1,0 +1,56 @@
+-- How the number of clear bits follows a change of one bit.
+use Rattle.std.proofs.Common.{◌≡◌, ℕ, zero, suc, ◌+◌, ◌<◌, ◌≤◌, Bool, true, false, if◌then◌else◌, List, inl, inr, refl, sym, ap, ◌∙◌, arith}
+use Rattle.std.proofs.lemmas.Bool.{cases_eq}
+use Rattle.volume_model.specs.GroupRecord.{bit_at, clear_bits}
+use Rattle.cyl_groups.specs.Bits.{HasBitPut}
+
+counts_one : (a n : ℕ) (b : Bool) → a ≤ n → a + (if b then 0 else 1) ≤ suc n
+counts_one a n true below = omega arith
+counts_one a n false below = omega arith
+
+counts_same : (m n : ℕ) (a b : Bool) → m ≡ n → a ≡ b → m + (if a then 0 else 1) ≡ n + (if b then 0 else 1)
+counts_same m n a b front here = ap (λ (k : ℕ). k + (if a then 0 else 1)) front ∙ ap (λ (c : Bool). n + (if c then 0 else 1)) here
+
+counts_less : (m n : ℕ) (a b : Bool) → m ≡ n → a ≡ true → b ≡ false → m + (if a then 0 else 1) + 1 ≡ n + (if b then 0 else 1)
+counts_less m n true false front now was = omega arith
+counts_less m n true true front now was = absurd (cc)
+counts_less m n false b front now was = absurd (cc)
+
+counts_kept : (m n : ℕ) (a b : Bool) → m + 1 ≡ n → a ≡ b → m + (if a then 0 else 1) + 1 ≡ n + (if b then 0 else 1)
+counts_kept m n true true front here = omega arith
+counts_kept m n false false front here = omega arith
+counts_kept m n true false front here = absurd (cc)
+counts_kept m n false true front here = absurd (cc)
+
+pub clear_bits-le : (bits : List ℕ) (n : ℕ) → clear_bits bits n ≤ n
+unfolding clear_bits
+clear_bits-le bits zero = omega arith
+clear_bits-le bits (suc n) = counts_one (clear_bits bits n) n (bit_at bits n) (clear_bits-le bits n)
+
+-- the bits before the one that changed count as they did
+same_before : (i n : ℕ) (value : Bool) (old new : List ℕ) → HasBitPut i value old new → n ≤ i → clear_bits new n ≡ clear_bits old n
+unfolding clear_bits
+same_before i zero value old new put below = refl
+same_before i (suc n) value old new put below =
+    counts_same (clear_bits new n) (clear_bits old n) (bit_at new n) (bit_at old n) (same_before i n value old new put (omega arith))
+    (put.others n (λ same. omega arith))
+
+-- a clear bit that was set counts no more
+pub one_less : (i n : ℕ) (old new : List ℕ) → HasBitPut i true old new → bit_at old i ≡ false → i < n
+    → clear_bits new n + 1 ≡ clear_bits old n
+unfolding clear_bits
+one_less i zero old new put was below = absurd (omega arith)
+one_less i (suc n) old new put was below = elim (cases_eq n i) [
+  | inl same ↦
+      counts_less (clear_bits new n) (clear_bits old n) (bit_at new n) (bit_at old n) (same_before i n true old new put (omega arith))
+      (ap (λ (k : ℕ). bit_at new k) same ∙ put.bit) (ap (λ (k : ℕ). bit_at old k) same ∙ was)
+  | inr differs ↦
+      counts_kept (clear_bits new n) (clear_bits old n) (bit_at new n) (bit_at old n) (one_less i n old new put was (omega arith))
+      (put.others n differs)
+]
+
+-- a set bit that was cleared counts one more
+pub one_more : (i n : ℕ) (old new : List ℕ) → HasBitPut i false old new → bit_at old i ≡ true → i < n
+    → clear_bits new n ≡ clear_bits old n + 1
+one_more i n old new put was below =
+    sym (one_less i n new old record { bit = was; others = λ j apart. sym (put.others j apart) } put.bit below)

@@ -1,0 +1,5 @@
+pub mod BitChanges
+pub mod Counts
+pub mod BitRuns
+pub mod RecordTests
+pub mod Spelling

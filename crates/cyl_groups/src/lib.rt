@@ -1,0 +1,12 @@
+//! The record of a group, both ways, and what it says is free (`docs/FORMAT.md`, "Group record").
+#![tactic(auto)]
+
+mod bits;
+mod group;
+mod record;
+
+pub use group::Group;
+pub use record::{BadGroup, group_read_back, group_spelled_again, read_group, write_group};
+
+#[cfg(test)]
+mod tests;

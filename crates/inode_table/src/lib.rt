@@ -1,0 +1,12 @@
+//! The record of an inode, both ways: from its 128 bytes and to them (`docs/FORMAT.md`, "Inode
+//! record").
+#![tactic(auto)]
+
+mod numbers;
+mod record;
+
+pub use record::{BadInode, dinode_read_back, dinode_spelled_again, read_dinode, write_dinode};
+pub use volume_model::Dinode;
+
+#[cfg(test)]
+mod tests;
