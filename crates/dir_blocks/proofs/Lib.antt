@@ -1,0 +1,4 @@
+pub mod ChangedSlots
+pub mod RightSlots
+pub mod ReadSlots
+pub mod WrittenSlots
