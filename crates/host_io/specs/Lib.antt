@@ -1,0 +1,4 @@
+pub mod Outside
+pub mod MemSink
+pub mod Named
+pub mod MemHost

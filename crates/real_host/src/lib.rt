@@ -1,0 +1,14 @@
+//! The outside of the program: disks and sinks over files, standard output, and the clock. It is
+//! proved against the traits, and tells nothing of what files hold.
+#![tactic(auto)]
+
+mod file_disk;
+mod file_host;
+mod file_sink;
+
+pub use file_disk::FileDisk;
+pub use file_host::FileHost;
+pub use file_sink::FileSink;
+
+#[cfg(test)]
+mod tests;
