@@ -1,12 +1,8 @@
 //! The program `lufs`: UFS metadata logging over a volume image.
 #![tactic(auto)]
 
-mod file_disk;
-mod file_host;
-mod file_sink;
-
-use file_host::FileHost;
 use lufs_top::run;
+use real_host::FileHost;
 use std::env;
 use std::process::ExitCode;
 

@@ -1,11 +1,13 @@
 -- Which status an ending has, and what a status says of the volume.
-use Rattle.std.proofs.Common.{◌≡◌, ◌⊎◌, ℕ, List, [], ◌∷◌, refl, sym, ◌∙◌, subst, inl, inr, arith}
-use Rattle.std.specs.Prelude.{Contains}
+use Rattle.std.proofs.Common.{◌≡◌, ◌≢◌, ◌⊎◌, ℕ, List, [], ◌∷◌, refl, sym, ◌∙◌, subst, inl, inr, arith}
+use Rattle.std.proofs.lemmas.Bool.{false≢true}
+use Rattle.std.specs.Prelude.{Bool, Option, Some, None, IsSome, IfSome, Contains}
 use Rattle.volume_model.specs.Image.{Image}
 use Rattle.lufs_top.specs.declared.ending.Ending.{Ending}
-use Rattle.lufs_top.specs.declared.ending.Ending.TheVariants.{Done, Usage, Missing, DiskFault, NotVolume, BadHeader, BadRun, NoMemory}
+use Rattle.lufs_top.specs.declared.ending.Ending.TheVariants.{Done, Usage, Missing, DiskFault, NotVolume, Geometry as BadGeometry, BadHeader, BadRun, NoMemory}
 use Rattle.lufs_top.specs.Ending.{status_of, IsEndingOf}
-use Rattle.lufs_top.specs.Run.{Says, IsStatusOf, IsBadLog}
+use Rattle.lufs_top.specs.Run.{Says, IsStatusOf, IsBadLog, IsMkfsEnding}
+use Rattle.lufs_top.specs.declared.words.VolumeNumbers.{VolumeNumbers}
 
 -- the status of an ending that was said: its own, or that of want of memory, or of a failed put
 abbrev pub Fits : Ending → ℕ → Type 0
@@ -33,6 +35,7 @@ ending_1 Usage is = refl
 ending_1 Missing is = absurd (omega (arith, is))
 ending_1 DiskFault is = absurd (omega (arith, is))
 ending_1 NotVolume is = absurd (omega (arith, is))
+ending_1 (BadGeometry bad) is = absurd (omega (arith, is))
 ending_1 BadHeader is = absurd (omega (arith, is))
 ending_1 (BadRun tid place) is = absurd (omega (arith, is))
 ending_1 NoMemory is = absurd (omega (arith, is))
@@ -43,9 +46,16 @@ ending_2 Usage is = absurd (omega (arith, is))
 ending_2 Missing is = refl
 ending_2 DiskFault is = absurd (omega (arith, is))
 ending_2 NotVolume is = absurd (omega (arith, is))
+ending_2 (BadGeometry bad) is = absurd (omega (arith, is))
 ending_2 BadHeader is = absurd (omega (arith, is))
 ending_2 (BadRun tid place) is = absurd (omega (arith, is))
 ending_2 NoMemory is = absurd (omega (arith, is))
+
+-- a status is its ending's own, unless it is that of a failed put or of want of memory
+pub own_status : (e : Ending) (n status : ℕ) → n ≢ 5 → n ≢ 12 → Fits e status → status ≡ n → status_of e ≡ n
+own_status e n status put memory (inl same) is = sym same ∙ is
+own_status e n status put memory (inr (inl none)) is = absurd (memory (sym is ∙ none))
+own_status e n status put memory (inr (inr failed)) is = absurd (put (sym is ∙ failed.1))
 
 -- an ending of status 11 says that the log is bad
 bad_log_at : (e : Ending) (image : Image) → status_of e ≡ 11 → IsEndingOf image e → IsBadLog image
@@ -54,6 +64,7 @@ bad_log_at Usage image is about = absurd (omega (arith, is))
 bad_log_at Missing image is about = absurd (omega (arith, is))
 bad_log_at DiskFault image is about = absurd (omega (arith, is))
 bad_log_at NotVolume image is about = absurd (omega (arith, is))
+bad_log_at (BadGeometry bad) image is about = absurd (omega (arith, is))
 bad_log_at BadHeader image is about = (about.0, about.1, inl about.2)
 bad_log_at (BadRun tid place) image is about = (about.0, about.2, inr (about.1, tid, place, about.3))
 bad_log_at NoMemory image is about = absurd (omega (arith, is))
@@ -65,7 +76,7 @@ bad_log_from e status image (inr (inr put)) is about = absurd (omega (arith, put
 
 -- every status
 abbrev pub statuses : List ℕ
-statuses = 0 ∷ 1 ∷ 2 ∷ 4 ∷ 5 ∷ 6 ∷ 11 ∷ 12 ∷ []
+statuses = 0 ∷ 1 ∷ 2 ∷ 4 ∷ 5 ∷ 6 ∷ 10 ∷ 11 ∷ 12 ∷ []
 
 known_status_of : (e : Ending) → Contains statuses (status_of e)
 known_status_of (Done text) = (0, omega arith, refl)
@@ -73,9 +84,10 @@ known_status_of Usage = (1, omega arith, refl)
 known_status_of Missing = (2, omega arith, refl)
 known_status_of DiskFault = (3, omega arith, refl)
 known_status_of NotVolume = (5, omega arith, refl)
-known_status_of BadHeader = (6, omega arith, refl)
-known_status_of (BadRun tid place) = (6, omega arith, refl)
-known_status_of NoMemory = (7, omega arith, refl)
+known_status_of (BadGeometry bad) = (6, omega arith, refl)
+known_status_of BadHeader = (7, omega arith, refl)
+known_status_of (BadRun tid place) = (7, omega arith, refl)
+known_status_of NoMemory = (8, omega arith, refl)
 
 pub known_status : (e : Ending) (status : ℕ) → Fits e status → Contains statuses status
 known_status e status (inl same) = subst (λ (n : ℕ). Contains statuses n) (sym same) (known_status_of e)
@@ -85,3 +97,25 @@ known_status e status (inr (inr put)) = subst (λ (n : ℕ). Contains statuses n
 pub known_status_without_output : (status : ℕ) → (status ≡ 12) ⊎ (status ≡ 5) → Contains statuses status
 known_status_without_output status (inl memory) = known_status NoMemory status (inl memory)
 known_status_without_output status (inr put) = subst (λ (n : ℕ). Contains statuses n) (sym put) (4, omega arith, refl)
+
+-- every status of a volume that is made
+abbrev pub making_statuses : List ℕ
+making_statuses = 0 ∷ 4 ∷ 5 ∷ 10 ∷ 12 ∷ []
+
+module _ {D : Type 0} (tells : Bool) (sectors : D → ℕ) (disk : Option D) where
+  making_status_of : (numbers : VolumeNumbers) (e : Ending) → IsMkfsEnding tells sectors numbers disk e → Contains making_statuses (status_of e)
+  making_status_of numbers (Done text) is = (0, omega arith, refl)
+  making_status_of numbers Usage is = absurd is
+  making_status_of numbers Missing is = absurd is
+  making_status_of numbers DiskFault is = (1, omega arith, refl)
+  making_status_of numbers NotVolume is = absurd is
+  making_status_of numbers (BadGeometry bad) is = (3, omega arith, refl)
+  making_status_of numbers BadHeader is = absurd is
+  making_status_of numbers (BadRun tid place) is = absurd is
+  making_status_of numbers NoMemory is = (4, omega arith, refl)
+
+  pub making_status : (made : Option VolumeNumbers) (e : Ending) (status : ℕ) → IsSome made → IfSome made (λ n. IsMkfsEnding tells sectors n disk e) → Fits e status → Contains making_statuses status
+  making_status None e status some is fitting = absurd (false≢true some)
+  making_status (Some numbers) e status some is (inl same) = subst (λ (n : ℕ). Contains making_statuses n) (sym same) (making_status_of numbers e is)
+  making_status (Some numbers) e status some is (inr (inl memory)) = subst (λ (n : ℕ). Contains making_statuses n) (sym memory) (4, omega arith, refl)
+  making_status (Some numbers) e status some is (inr (inr put)) = subst (λ (n : ℕ). Contains making_statuses n) (sym put.1) (2, omega arith, refl)

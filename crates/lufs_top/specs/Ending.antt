@@ -9,8 +9,10 @@ use Rattle.volume_model.specs.Log.{NoHeader, Behind, BadRun as LogBadRun, log_of
 use Rattle.volume_model.specs.ScanText.{scan_text_of}
 use Rattle.log_scan.specs.declared.log.ScanError.{ScanError}
 use Rattle.log_scan.specs.declared.log.ScanError.TheVariants as scans
+use Rattle.lufs_top.specs.declared.ending.GeometryWord.{GeometryWord}
+use Rattle.lufs_top.specs.declared.ending.GeometryWord.TheVariants as words
 use Rattle.lufs_top.specs.declared.ending.Ending.{Ending}
-use Rattle.lufs_top.specs.declared.ending.Ending.TheVariants.{Done, Usage, Missing, DiskFault, NotVolume, BadHeader, BadRun, NoMemory}
+use Rattle.lufs_top.specs.declared.ending.Ending.TheVariants.{Done, Usage, Missing, DiskFault, NotVolume, Geometry as BadGeometry, BadHeader, BadRun, NoMemory}
 
 abbrev pub status_of : Ending → ℕ
 status_of (Done text) = 0
@@ -18,6 +20,7 @@ status_of Usage = 1
 status_of Missing = 2
 status_of DiskFault = 4
 status_of NotVolume = 6
+status_of (BadGeometry bad) = 10
 status_of BadHeader = 11
 status_of (BadRun tid place) = 11
 status_of NoMemory = 12
@@ -26,6 +29,14 @@ status_of NoMemory = 12
 abbrev pub line_of : List ℕ → List ℕ → List ℕ
 line_of words name = words ++ (32 ∷ (name ++ 10 ∷ []))
 
+-- what the number of a new volume is called
+abbrev pub name_of_number : GeometryWord → List ℕ
+name_of_number words.Groups = codes "G"
+name_of_number words.Bpg = codes "bpg"
+name_of_number words.Ipg = codes "ipg"
+name_of_number words.Log = codes "L"
+name_of_number words.Sectors = codes "sectors"
+
 -- what is printed, where the words named this volume
 abbrev pub text_of : List ℕ → Ending → List ℕ
 text_of name (Done text) = string_bytes text
@@ -33,6 +44,7 @@ text_of name Usage = codes "usage\n"
 text_of name Missing = line_of (codes "missing") name
 text_of name DiskFault = line_of (codes "disk fault") name
 text_of name NotVolume = line_of (codes "not a volume") name
+text_of name (BadGeometry bad) = codes "geometry " ++ (name_of_number bad.word ++ (32 ∷ (decimal bad.number ++ 10 ∷ [])))
 text_of name BadHeader = codes "bad log header\n"
 text_of name (BadRun tid place) = codes "bad log " ++ (decimal tid ++ (32 ∷ (decimal place ++ 10 ∷ [])))
 text_of name NoMemory = codes "no memory\n"
@@ -51,6 +63,7 @@ IsEndingOf image Usage = Unit {0}
 IsEndingOf image Missing = Unit {0}
 IsEndingOf image DiskFault = Unit {0}
 IsEndingOf image NotVolume = geometry_of image ≡ None
+IsEndingOf image (BadGeometry bad) = ⊥
 IsEndingOf image BadHeader = (g : Geometry) × (geometry_of image ≡ Some g) × (log_of g image ≡ NoHeader)
 IsEndingOf image (BadRun tid place) = (g : Geometry) × (h : Header) × (geometry_of image ≡ Some g) × (log_of g image ≡ Behind h (LogBadRun tid place))
 IsEndingOf image NoMemory = Unit {0}
@@ -62,6 +75,7 @@ IsOfVolume Usage = ⊥
 IsOfVolume Missing = ⊥
 IsOfVolume DiskFault = Unit {0}
 IsOfVolume NotVolume = Unit {0}
+IsOfVolume (BadGeometry bad) = ⊥
 IsOfVolume BadHeader = Unit {0}
 IsOfVolume (BadRun tid place) = Unit {0}
 IsOfVolume NoMemory = Unit {0}

@@ -1,7 +1,7 @@
-pub mod Outside
-pub mod MemSink
-pub mod Named
-pub mod MemHost
+pub mod Numbers
 pub mod Words
 pub mod Ending
 pub mod Run
+pub mod Mkfs
+pub mod MkfsCrash
+pub mod MkfsRun

@@ -1,8 +1,41 @@
 ghost use Rattle.std.specs.Prelude.{◌≡◌, IfOk, string_bytes};
-ghost use Rattle.lufs_top.specs.Ending.{status_of, text_of};
+ghost use Rattle.lufs_top.specs.Ending.{status_of, text_of, name_of_number};
 
 use lufs_base::Mem;
 use std::alloc::Global;
+
+/// A number of a new volume that can be wrong.
+#[derive(Clone, Copy, Debug, PartialEq, Eq)]
+pub(crate) enum GeometryWord {
+    Groups,
+    Bpg,
+    Ipg,
+    Log,
+    /// The sectors of the disk.
+    Sectors,
+}
+
+impl GeometryWord {
+    // The name that it is printed by.
+    fn name(self) -> &'static str
+        ensures { result.now ≡ name_of_number self }
+    {
+        match self {
+            GeometryWord::Groups => "G",
+            GeometryWord::Bpg => "bpg",
+            GeometryWord::Ipg => "ipg",
+            GeometryWord::Log => "L",
+            GeometryWord::Sectors => "sectors",
+        }
+    }
+}
+
+/// A number that is out of its range, or too small.
+#[derive(Clone, Copy, Debug, PartialEq, Eq)]
+pub(crate) struct BadNumber {
+    pub(crate) word: GeometryWord,
+    pub(crate) number: u64,
+}
 
 /// How a command ended.
 #[derive(Debug, Drop)]
@@ -17,6 +50,8 @@ pub(crate) enum Ending {
     DiskFault,
     /// The disk holds no volume.
     NotVolume,
+    /// A volume can't be made with this number.
+    Geometry(BadNumber),
     /// The volume has no log header.
     BadHeader,
     /// The first run of the log that breaks its rules.
@@ -36,6 +71,7 @@ impl Ending {
             Ending::Missing => 2,
             Ending::DiskFault => 4,
             Ending::NotVolume => 6,
+            Ending::Geometry(_) => 10,
             Ending::BadHeader | Ending::BadRun { .. } => 11,
             Ending::NoMemory => 12,
         }
@@ -51,6 +87,10 @@ impl Ending {
             Ending::Missing => Ok(format!(in alloc; "missing {name}\n")?),
             Ending::DiskFault => Ok(format!(in alloc; "disk fault {name}\n")?),
             Ending::NotVolume => Ok(format!(in alloc; "not a volume {name}\n")?),
+            Ending::Geometry(BadNumber { word, number }) => {
+                let word = word.name();
+                Ok(format!(in alloc; "geometry {word} {number}\n")?)
+            }
             Ending::BadHeader => Ok(String::from_str(alloc, "bad log header\n")?),
             Ending::BadRun { tid, place } => Ok(format!(in alloc; "bad log {tid} {place}\n")?),
             Ending::NoMemory => Ok(String::from_str(alloc, "no memory\n")?),

@@ -3,7 +3,9 @@
 
 mod command;
 mod ending;
-pub mod host;
+pub mod mkfs;
+mod mkfs_command;
+mod numbers;
 mod report;
 #[cfg(test)]
 mod tests;

@@ -3,7 +3,7 @@ ghost use Rattle.lufs_base.specs.Causes.{Rose};
 ghost use Rattle.lufs_top.specs.Run.{Prints, Says};
 
 use crate::ending::Ending;
-use crate::host::Sink;
+use host_io::Sink;
 use std::alloc::Global;
 
 /// The status of a sink that failed.

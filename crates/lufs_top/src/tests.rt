@@ -1,7 +1,7 @@
 ghost use Rattle.std.specs.Prelude.{◌≡◌, ◌%◌, IfOk, length};
 
-use crate::host::MemHost;
 use crate::run;
+use host_io::MemHost;
 use lufs_base::{Mem, put_u32};
 use sector_disk::{Disk, Fail, MemDisk};
 use std::alloc::Global;
@@ -129,13 +129,13 @@ const NONE: &str = "epoch 3 head 0 tid 1 ring 255\ncommitted 0 sectors 0\n";
 struct Failing {
     take: Option<u64>,
     put: Option<u64>,
-    read: Option<u64>,
+    disk: Option<Fail>,
 }
 
 const NOTHING: Failing = Failing {
     take: None,
     put: None,
-    read: None,
+    disk: None,
 };
 
 /// What a run left.
@@ -143,8 +143,10 @@ const NOTHING: Failing = Failing {
 struct Left {
     status: u8,
     text: Vec<u8>,
-    /// The volume is back, and nothing was written to it.
-    unwritten: bool,
+    /// How many sectors the disk has that is back, 0 where none is.
+    sectors: u64,
+    /// How many of its writes and flushes it lists.
+    calls: u64,
 }
 
 // Writes a word, where it fits.
@@ -238,11 +240,20 @@ fn endless(alloc: Global) -> Result<Vec<u8>, Mem>
     Ok(image)
 }
 
+// What `lufs` answers to these words.
+fn run_words(alloc: Global, host: &mut MemHost, words: &[&str]) -> Result<u8, Mem> {
+    let mut said = Vec::new(alloc);
+    for word in words {
+        said.push(String::from_str(alloc, word)?)?;
+    }
+    Ok(run(alloc, host, &said))
+}
+
 // What `lufs` does with these words, where the host holds that image under `S`.
 fn run_over(alloc: Global, words: &[&str], image: Vec<u8>, failing: Failing) -> Result<Left, Mem>
     requires { length image.items % 512 ≡ 0 }
 {
-    let mut host = MemHost::new(alloc);
+    let mut host = MemHost::new(alloc, 1000);
     if let Some(k) = failing.take {
         host.fail_host(k)?;
     }
@@ -250,25 +261,22 @@ fn run_over(alloc: Global, words: &[&str], image: Vec<u8>, failing: Failing) -> 
         host.fail_put("-", k)?;
     }
     let mut fails = Vec::new(alloc);
-    if let Some(k) = failing.read {
-        fails.push(Fail::Read(k))?;
+    if let Some(fail) = failing.disk {
+        fails.push(fail)?;
     }
     host.add_disk("S", MemDisk::new(image, fails))?;
-    let mut said = Vec::new(alloc);
-    for word in words {
-        said.push(String::from_str(alloc, word)?)?;
-    }
-    let status = run(alloc, &mut host, &said);
+    let status = run_words(alloc, &mut host, words)?;
     Ok(Left {
         status,
         text: Vec::from_slice(alloc, host.sink("-").unwrap_or(b""))?,
-        unwritten: host.disk("S").is_some_and(|disk| disk.calls() == 0),
+        sectors: host.disk("S").map_or(0, |disk| disk.sectors()),
+        calls: host.disk("S").map_or(0, |disk| disk.calls()),
     })
 }
 
 #[test]
 fn words_that_are_a_command(rt: HostRuntime) -> Result<(), std::test::Fail> {
-    let words: [(&[&str], u8, &str); 10] = [
+    let words: [(&[&str], u8, &str); 14] = [
         (&["scan", "S"], 0, ONE),
         (&[], 1, "usage\n"),
         (&["scan"], 1, "usage\n"),
@@ -277,6 +285,10 @@ fn words_that_are_a_command(rt: HostRuntime) -> Result<(), std::test::Fail> {
         (&["Scan", "S"], 1, "usage\n"),
         (&["check", "S"], 1, "usage\n"),
         (&["S"], 1, "usage\n"),
+        (&["mkfs", "S"], 1, "usage\n"),
+        (&["mkfs", "S", "1", "64", "32"], 1, "usage\n"),
+        (&["mkfs", "S", "1", "64", "32", "256", "0"], 1, "usage\n"),
+        (&["mkfs", "-", "1", "64", "32", "256"], 1, "usage\n"),
         (&["scan", "T"], 2, "missing T\n"),
         (&["scan", ""], 2, "missing \n"),
     ];
@@ -289,7 +301,7 @@ fn words_that_are_a_command(rt: HostRuntime) -> Result<(), std::test::Fail> {
         )?;
         assert_eq!(rt; left.status, status, "{words:?}");
         assert_eq!(rt; left.text.as_slice(), text.as_bytes(), "{words:?}");
-        assert!(rt; left.unwritten, "{words:?}");
+        assert_eq!(rt; (left.sectors, left.calls), (792, 0), "{words:?}");
     }
     Ok(())
 }
@@ -334,7 +346,11 @@ fn volumes_that_are_listed_or_refused(rt: HostRuntime) -> Result<(), std::test::
             text.as_bytes(),
             "{sectors} {change:?}"
         );
-        assert!(rt; left.unwritten, "{sectors} {change:?}");
+        assert_eq!(rt;
+            (left.sectors, left.calls),
+            (u64::from(sectors), 0),
+            "{sectors} {change:?}"
+        );
     }
     Ok(())
 }
@@ -400,7 +416,7 @@ fn takes_puts_and_reads_that_fail(rt: HostRuntime) -> Result<(), std::test::Fail
         (
             SAME,
             Failing {
-                read: Some(1),
+                disk: Some(Fail::Read(1)),
                 ..NOTHING
             },
             4,
@@ -409,7 +425,7 @@ fn takes_puts_and_reads_that_fail(rt: HostRuntime) -> Result<(), std::test::Fail
         (
             SAME,
             Failing {
-                read: Some(2),
+                disk: Some(Fail::Read(2)),
                 ..NOTHING
             },
             4,
@@ -418,7 +434,7 @@ fn takes_puts_and_reads_that_fail(rt: HostRuntime) -> Result<(), std::test::Fail
         (
             SAME,
             Failing {
-                read: Some(3),
+                disk: Some(Fail::Read(3)),
                 ..NOTHING
             },
             4,
@@ -427,7 +443,7 @@ fn takes_puts_and_reads_that_fail(rt: HostRuntime) -> Result<(), std::test::Fail
         (
             SAME,
             Failing {
-                read: Some(4),
+                disk: Some(Fail::Read(4)),
                 ..NOTHING
             },
             0,
@@ -439,7 +455,7 @@ fn takes_puts_and_reads_that_fail(rt: HostRuntime) -> Result<(), std::test::Fail
         let left = run_over(rt.alloc(), &["scan", "S"], image, failing)?;
         assert_eq!(rt; left.status, status, "{failing:?}");
         assert_eq!(rt; left.text.as_slice(), text.as_bytes(), "{failing:?}");
-        assert!(rt; left.unwritten, "{failing:?}");
+        assert_eq!(rt; (left.sectors, left.calls), (792, 0), "{failing:?}");
     }
     Ok(())
 }
@@ -477,6 +493,181 @@ fn deltas_at_the_edges_of_their_rows(rt: HostRuntime) -> Result<(), std::test::F
         let is_bad = left.text.as_slice() == "bad log 1 0\n".as_bytes();
         let want = if allowed { (0, false) } else { (11, true) };
         assert_eq!(rt; (left.status, is_bad), want, "{kind} {home} {len}");
+    }
+    Ok(())
+}
+
+const MADE: &str = "made blocks 99 inodes 30 free 61 ring 255\n";
+
+#[test]
+fn volumes_that_are_made(rt: HostRuntime) -> Result<(), std::test::Fail> {
+    let mut host = MemHost::new(rt.alloc(), 1000);
+    for (words, status, text) in [
+        (["mkfs", "S", "1", "64", "32", "256"].as_slice(), 0, MADE),
+        (
+            ["scan", "S"].as_slice(),
+            0,
+            "epoch 1 head 0 tid 1 ring 255\ncommitted 0 sectors 0\n",
+        ),
+        (
+            ["mkfs", "T", "3", "72", "64", "264"].as_slice(),
+            0,
+            "made blocks 252 inodes 190 free 206 ring 263\n",
+        ),
+        (
+            ["scan", "T"].as_slice(),
+            0,
+            "epoch 1 head 0 tid 1 ring 263\ncommitted 0 sectors 0\n",
+        ),
+        (
+            ["mkfs", "U", "1", "60", "32", "256"].as_slice(),
+            10,
+            "geometry bpg 60\n",
+        ),
+        (["scan", "U"].as_slice(), 2, "missing U\n"),
+    ] {
+        assert_eq!(rt;
+            run_words(rt.alloc(), &mut host, words)?,
+            status,
+            "{words:?}"
+        );
+        assert_eq!(rt; host.sink("-").unwrap_or(b""), text.as_bytes(), "{words:?}");
+    }
+    for (sectors, status, text, calls) in [
+        (0, 10, "geometry sectors 0\n", 0),
+        (791, 10, "geometry sectors 791\n", 0),
+        (792, 0, MADE, 7),
+        (793, 0, MADE, 7),
+    ] {
+        let image = volume(rt.alloc(), sectors, &ROOT, SAME)?;
+        let words = ["mkfs", "S", "1", "64", "32", "256"];
+        let left = run_over(rt.alloc(), &words, image, NOTHING)?;
+        assert_eq!(rt; left.status, status, "{sectors}");
+        assert_eq!(rt; left.text.as_slice(), text.as_bytes(), "{sectors}");
+        assert_eq!(rt;
+            (left.sectors, left.calls),
+            (u64::from(sectors), calls),
+            "{sectors}"
+        );
+    }
+    Ok(())
+}
+
+#[test]
+fn numbers_of_a_new_volume(rt: HostRuntime) -> Result<(), std::test::Fail> {
+    // The disk is too small for any volume.
+    let in_range = "geometry sectors 8\n";
+    let usage = "usage\n";
+    for (groups, bpg, ipg, log, text) in [
+        ("1", "64", "32", "256", in_range),
+        ("64", "2048", "1024", "65536", in_range),
+        ("0", "64", "32", "256", "geometry G 0\n"),
+        ("65", "64", "32", "256", "geometry G 65\n"),
+        ("1", "56", "32", "256", "geometry bpg 56\n"),
+        ("1", "63", "32", "256", "geometry bpg 63\n"),
+        ("1", "68", "32", "256", "geometry bpg 68\n"),
+        ("1", "2049", "32", "256", "geometry bpg 2049\n"),
+        ("1", "2056", "32", "256", "geometry bpg 2056\n"),
+        ("1", "64", "0", "256", "geometry ipg 0\n"),
+        ("1", "64", "31", "256", "geometry ipg 31\n"),
+        ("1", "64", "48", "256", "geometry ipg 48\n"),
+        ("1", "64", "1025", "256", "geometry ipg 1025\n"),
+        ("1", "64", "1056", "256", "geometry ipg 1056\n"),
+        ("1", "64", "32", "248", "geometry L 248\n"),
+        ("1", "64", "32", "255", "geometry L 255\n"),
+        ("1", "64", "32", "260", "geometry L 260\n"),
+        ("1", "64", "32", "65537", "geometry L 65537\n"),
+        ("1", "64", "32", "65544", "geometry L 65544\n"),
+        ("65", "0", "0", "0", "geometry G 65\n"),
+        ("1", "0", "0", "0", "geometry bpg 0\n"),
+        ("1", "64", "0", "0", "geometry ipg 0\n"),
+        (
+            "18446744073709551615",
+            "64",
+            "32",
+            "256",
+            "geometry G 18446744073709551615\n",
+        ),
+        ("18446744073709551616", "64", "32", "256", usage),
+        ("01", "64", "32", "256", usage),
+        ("00", "64", "32", "256", usage),
+        ("+1", "64", "32", "256", usage),
+        ("-1", "64", "32", "256", usage),
+        ("1", "", "32", "256", usage),
+        ("1", "64", "3 2", "256", usage),
+        ("1", "64", "32", "0x100", usage),
+    ] {
+        let words = ["mkfs", "S", groups, bpg, ipg, log];
+        let image = volume(rt.alloc(), 8, &[], SAME)?;
+        let left = run_over(rt.alloc(), &words, image, NOTHING)?;
+        let status = if text == usage { 1 } else { 10 };
+        assert_eq!(rt; left.status, status, "{words:?}");
+        assert_eq!(rt; left.text.as_slice(), text.as_bytes(), "{words:?}");
+        assert_eq!(rt; (left.sectors, left.calls), (8, 0), "{words:?}");
+    }
+    Ok(())
+}
+
+#[test]
+fn calls_of_mkfs_that_fail(rt: HostRuntime) -> Result<(), std::test::Fail> {
+    let words = ["mkfs", "S", "1", "64", "32", "256"];
+    let fault = "disk fault S\n";
+    for (fail, status, text, calls) in [
+        (Fail::Write(1), 4, fault, 1),
+        (Fail::Flush(1), 4, fault, 1),
+        (Fail::Write(2), 4, fault, 3),
+        (Fail::Write(3), 4, fault, 4),
+        (Fail::Flush(2), 4, fault, 4),
+        (Fail::Write(4), 4, fault, 6),
+        (Fail::Flush(3), 4, fault, 6),
+        (Fail::Write(5), 0, MADE, 7),
+        (Fail::Flush(4), 0, MADE, 7),
+        (Fail::Read(1), 0, MADE, 7),
+    ] {
+        let failing = Failing {
+            disk: Some(fail),
+            ..NOTHING
+        };
+        let image = volume(rt.alloc(), 792, &[], SAME)?;
+        let left = run_over(rt.alloc(), &words, image, failing)?;
+        assert_eq!(rt; left.status, status, "{fail:?}");
+        assert_eq!(rt; left.text.as_slice(), text.as_bytes(), "{fail:?}");
+        assert_eq!(rt; (left.sectors, left.calls), (792, calls), "{fail:?}");
+    }
+    for (failing, status, text, calls) in [
+        (
+            Failing {
+                take: Some(1),
+                ..NOTHING
+            },
+            5,
+            "",
+            0,
+        ),
+        (
+            Failing {
+                take: Some(2),
+                ..NOTHING
+            },
+            4,
+            fault,
+            0,
+        ),
+        (
+            Failing {
+                put: Some(1),
+                ..NOTHING
+            },
+            5,
+            "",
+            7,
+        ),
+    ] {
+        let image = volume(rt.alloc(), 792, &[], SAME)?;
+        let left = run_over(rt.alloc(), &words, image, failing)?;
+        assert_eq!(rt; left.status, status, "{failing:?}");
+        assert_eq!(rt; left.text.as_slice(), text.as_bytes(), "{failing:?}");
+        assert_eq!(rt; (left.sectors, left.calls), (792, calls), "{failing:?}");
     }
     Ok(())
 }

@@ -1,10 +1,11 @@
 ghost use Rattle.std.specs.Prelude.{◌≡◌, ◌≤◌, ◌*◌, ◌^◌, ◌<◌, length, string_bytes, sum_by, IfOk, OnOk, ◌++◌};
-ghost use Rattle.volume_model.specs.ScanText.{scan_text, header_line, tx_line, summary_line, delta_bytes};
-ghost use Rattle.volume_model.specs.LogRecord.{logged_len};
+ghost use Rattle.volume_model.specs.ScanText.{scan_text, header_line, tx_line, summary_line};
+ghost use Rattle.volume_model.specs.MkfsText.{mkfs_text};
+ghost use Rattle.volume_model.specs.LogRecord.{logged_len, delta_bytes};
 ghost use Rattle.lufs_base.specs.Layout.{IsGeometry};
 
 use log_scan::{Header, Tx, TxList};
-use lufs_base::{Delta, DeltaKind, Geometry, Mem};
+use lufs_base::{Delta, Geometry, Mem};
 use std::alloc::Global;
 
 // The bytes of the deltas in the log, with the 16 bytes at the head of each.
@@ -14,7 +15,7 @@ fn delta_bytes(deltas: &[Delta]) -> u128
     let mut bytes = 0;
     for delta in deltas {
         bytes += 16;
-        if !matches!(delta.kind, DeltaKind::Zero | DeltaKind::Cancel) {
+        if delta.kind.has_bytes() {
             bytes += u128::from(delta.len);
         }
     }
@@ -68,4 +69,17 @@ pub(crate) fn scan_text(
     let sectors = total_sectors(txs.as_slice());
     write!(text, "committed {committed} sectors {sectors}\n")?;
     Ok(text)
+}
+
+/// What `mkfs` prints of the volume that it made (`docs/FORMAT.md`, "What mkfs prints").
+#[tactic(auto, unfolding(volume_model::specs::MkfsText::mkfs_text))]
+pub(crate) fn mkfs_text(alloc: Global, g: &Geometry) -> Result<String, Mem>
+    requires { IsGeometry g.now }
+    ensures { IfOk result (λ text. string_bytes text ≡ mkfs_text g.now) }
+{
+    let blocks = g.total();
+    let inodes = g.groups * g.ipg - 2;
+    let free = g.groups * (g.bpg - (1 + g.ipg / 32)) - 1;
+    let ring = g.ring();
+    Ok(format!(in alloc; "made blocks {blocks} inodes {inodes} free {free} ring {ring}\n")?)
 }

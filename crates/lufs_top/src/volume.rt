@@ -7,10 +7,11 @@ ghost use Rattle.lufs_top.specs.Ending.{IsEndingOf, IsOfVolume, ending_of_error}
 
 use crate::ending::Ending;
 use crate::text::scan_text;
-use log_scan::{ScanError, read_super, scan};
+use log_scan::{ScanError, scan};
 use lufs_base::Geometry;
 use sector_disk::Disk;
 use std::alloc::Global;
+use ufs_super::read_super;
 
 /// The sector of the superblock.
 const SUPERBLOCK: u64 = 16;
@@ -31,6 +32,7 @@ fn read_geometry<D: Disk>(disk: &mut D) -> Result<Geometry, GeometryError>
     ensures content { D.present disk.new ≡ D.present disk.old }
     ensures listed { D.listed disk.new ≡ D.listed disk.old }
     ensures calls { D.calls disk.new ≡ D.calls disk.old }
+    ensures sectors { D.sectors disk.new ≡ D.sectors disk.old }
     ensures later { D.faults disk.old ≤ D.faults disk.new }
     ensures cause { result ≡ Err GeometryError.Disk → Rose (D.faults disk.old) (D.faults disk.new) }
 {
@@ -67,6 +69,7 @@ pub(crate) fn scan_volume<D: Disk>(alloc: Global, disk: &mut D) -> Ending
     ensures content { D.present disk.new ≡ D.present disk.old }
     ensures listed { D.listed disk.new ≡ D.listed disk.old }
     ensures calls { D.calls disk.new ≡ D.calls disk.old }
+    ensures sectors { D.sectors disk.new ≡ D.sectors disk.old }
     ensures later { D.faults disk.old ≤ D.faults disk.new }
     ensures cause { result ≡ DiskFault → Rose (D.faults disk.old) (D.faults disk.new) }
 {

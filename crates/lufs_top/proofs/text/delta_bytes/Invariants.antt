@@ -1,5 +1,5 @@
 use Rattle.std.proofs.Common.{◌≡◌, ◌≤◌, ◌*◌, take}
-use Rattle.volume_model.specs.ScanText.{delta_bytes}
+use Rattle.volume_model.specs.LogRecord.{delta_bytes}
 use Rattle.lufs_top.proofs.text.delta_bytes.Given as goal
 
 abbrev pub invariant-loop-delta : goal.invariant-loop-delta

@@ -1,7 +1,0 @@
-use Rattle.std.proofs.Common.{◌≡◌, take}
-use Rattle.std.specs.List.{flat_map}
-use Rattle.lufs_top.specs.MemHost.{put_of_sink}
-use Rattle.lufs_top.proofs.host.mem_host.MemHost.put_fails.Given as goal
-
-abbrev pub invariant-loop-fail : goal.invariant-loop-fail
-invariant-loop-fail l = l.fails.items ≡ flat_map (put_of_sink l.name) (take l.fail-index l.fail-items)
