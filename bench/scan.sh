@@ -7,7 +7,7 @@ rounds=${ROUNDS:-25}
 crate=$(cd "$(dirname "${BASH_SOURCE[0]}")/../crates/lufs" && pwd)
 lufs=$crate/out/lufs
 if [ ! -x "$lufs" ]; then
-    echo "there is no $lufs: run 'rt run -- scan data/S' in $crate" >&2
+    echo "there is no $lufs: run 'rt run -- mkfs out/volume 1 64 32 256' in $crate" >&2
     exit 1
 fi
 
