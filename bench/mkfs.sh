@@ -2,15 +2,9 @@
 # Times `lufs mkfs` of the largest volume against `dd` of the same bytes, synced at the end, and against
 # `mke2fs -t ext4` of a file of the same size where that is installed. README.md, beside this, says what
 # is measured. It wants bash 5 and the built program.
-set -eu
+. "$(dirname "${BASH_SOURCE[0]}")/common.sh"
 
 rounds=${ROUNDS:-7}
-crate=$(cd "$(dirname "${BASH_SOURCE[0]}")/../crates/lufs" && pwd)
-lufs=$crate/out/lufs
-if [ ! -x "$lufs" ]; then
-    echo "there is no $lufs: run 'rt run -- mkfs out/volume 1 64 32 256' in $crate" >&2
-    exit 1
-fi
 PATH=$PATH:/usr/sbin:/sbin
 
 groups=64 bpg=2048 ipg=1024 log=65536
@@ -19,17 +13,7 @@ blocks=$((3 + log / 8 + groups * bpg))
 # the root's block.
 written=$((2 * 512 + 512 * log + 4096 * (groups * (1 + ipg / 32) + 1)))
 
-folder=$(mktemp -d)
-trap 'rm -rf "$folder"' EXIT
-
-# timed COMMAND..: how many microseconds it took, in `took`.
-timed() {
-    local start=${EPOCHREALTIME/[.,]/}
-    "$@" >/dev/null 2>&1
-    took=$((${EPOCHREALTIME/[.,]/} - start))
-}
-
-# best NAME: keeps the shortest time of each command.
+# keep NAME: the shortest time of this command so far, of `took` and those before it.
 declare -A best
 keep() {
     if [ -z "${best[$1]:-}" ] || [ "$took" -lt "${best[$1]}" ]; then best[$1]=$took; fi

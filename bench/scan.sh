@@ -1,18 +1,9 @@
 #!/usr/bin/env bash
 # Times `lufs scan` over full logs against `cat` of the same file. README.md, beside this, says what is
 # measured. It wants bash 5, python3 (which rt wants too) and GNU grep; /usr/bin/time where it is there.
-set -eu
+. "$(dirname "${BASH_SOURCE[0]}")/common.sh"
 
 rounds=${ROUNDS:-25}
-crate=$(cd "$(dirname "${BASH_SOURCE[0]}")/../crates/lufs" && pwd)
-lufs=$crate/out/lufs
-if [ ! -x "$lufs" ]; then
-    echo "there is no $lufs: run 'rt run -- mkfs out/volume 1 64 32 256' in $crate" >&2
-    exit 1
-fi
-
-folder=$(mktemp -d)
-trap 'rm -rf "$folder"' EXIT
 
 # make_image FILE L SHAPE: a volume whose log of L sectors is full of transactions of one sector.
 make_image() {
@@ -50,13 +41,6 @@ with open(path, "wb") as image:
         commit = struct.pack(">QII", tid, len(deltas), 8)
         image.write((logged + commit).ljust(504, b"\0") + struct.pack(">II", tid, 1))
 PYTHON
-}
-
-# timed COMMAND..: how many microseconds it took, in `took`.
-timed() {
-    local start=${EPOCHREALTIME/[.,]/}
-    "$@" >/dev/null
-    took=$((${EPOCHREALTIME/[.,]/} - start))
 }
 
 # peak COMMAND..: the most memory that it held, in KiB.
