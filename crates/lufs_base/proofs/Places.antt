@@ -1,8 +1,8 @@
 -- A block of the volume lies in its region, and in no other.
-use Rattle.std.proofs.Common.{◌≡◌, ℕ, ◌+◌, ◌-◌, ◌*◌, ◌/◌, ◌%◌, ◌<◌, ◌≤◌, ◌⊎◌, inl, inr, nat_lt, subst, sym, ◌∙◌, ap, arith}
+use Rattle.std.proofs.Common.{◌≡◌, ℕ, ◌+◌, ◌-◌, ◌*◌, ◌/◌, ◌%◌, ◌<◌, ◌≤◌, inl, inr, subst, sym, ◌∙◌, ap, arith}
 use Rattle.std.proofs.lemmas.Nat.{div-mul-add, mod-mul-add}
 use Rattle.std.proofs.Math.Nat.{div-add-mod', mod-lt, mul-le-mul_right}
-use Rattle.std.proofs.lemmas.Bool.{cases_Bool, ltb-true, ltb-false}
+use Rattle.std.proofs.lemmas.Bool.{cases_lt}
 use Rattle.std.proofs.lemmas.Bool.Decides.{nat_tests}
 use Rattle.lufs_base.specs.declared.geometry.Geometry.{Geometry}
 use Rattle.lufs_base.specs.declared.geometry.Region.{Region}
@@ -44,18 +44,19 @@ lies_in_group g b n place ok within is below =
     let next : group_start g (n + 1) ≡ group_start g n + g.bpg = omega arith in
     grind (arith, nat_tests)
 
-pub or_less : (a b : ℕ) → (a < b) ⊎ (b ≤ a)
-or_less a b = elim (cases_Bool (nat_lt a b)) [
-  | inl less ↦ inl (ltb-true a b less)
-  | inr not ↦ inr (ltb-false a b not)
-]
-
 -- a group that begins before the end of all groups is one of them
 group_within : (n groups bpg : ℕ) → n * bpg < groups * bpg → n < groups
-group_within n groups bpg before = elim (or_less n groups) [
+group_within n groups bpg before = elim (cases_lt n groups) [
   | inl less ↦ less
   | inr more ↦ let past : groups * bpg ≤ n * bpg = mul-le-mul_right bpg more in absurd (omega (arith, past, before))
 ]
+
+-- each group ends in the volume
+pub group_fits : (g : Geometry) (n : ℕ) → n < g.groups → group_start g n + g.bpg ≤ blocks_of g
+group_fits g n within =
+    let next : n + 1 ≤ g.groups = omega arith in
+    let fits : (n + 1) * g.bpg ≤ g.groups * g.bpg = mul-le-mul_right g.bpg next in
+    omega (arith, fits)
 
 -- a block before the groups lies in its region
 lies_before_groups : (g : Geometry) (b : ℕ) → b < group_start g 0 → InRegion g b (region_of g b)
@@ -63,7 +64,7 @@ lies_before_groups g b before = grind (arith, nat_tests)
 
 -- a block of the volume lies in its region
 pub lies_in_region : (g : Geometry) (b : ℕ) → IsGeometry g → b < blocks_of g → InRegion g b (region_of g b)
-lies_in_region g b ok inside = elim (or_less b (group_start g 0)) [
+lies_in_region g b ok inside = elim (cases_lt b (group_start g 0)) [
   | inl before ↦ lies_before_groups g b before
   | inr behind ↦
       let away = b - (3 + g.log / 8) in
