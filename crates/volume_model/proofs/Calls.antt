@@ -2,6 +2,7 @@
 use Rattle.std.proofs.Common.{◌≡◌, Bool, true, false, ◌||◌, cond, List, [], ◌∷◌, ◌++◌, ap, ◌∙◌, refl}
 use Rattle.std.specs.List.{list_any}
 use Rattle.std.proofs.lemmas.List.Folds.{list_any-append}
+use Rattle.std.proofs.Math.Bool.{or-true, or-false}
 use Rattle.volume_model.specs.declared.device_call.DeviceCall.{DeviceCall}
 use Rattle.volume_model.specs.declared.device_call.DeviceCall.TheVariants.{Write, Flush}
 use Rattle.volume_model.specs.Image.{Image, overwritten}
@@ -25,14 +26,6 @@ flushed-pending (call ∷ calls) =
 -- the calls have a flush among them
 abbrev pub has_flush : List DeviceCall → Bool
 has_flush calls = list_any is_flush calls
-
-pub or-false : (b : Bool) → (b || false) ≡ b
-or-false true = refl
-or-false false = refl
-
-pub or-true : (b : Bool) → (b || true) ≡ true
-or-true true = refl
-or-true false = refl
 
 -- with no flush among them all calls are pending
 pub pending_all : (calls : List DeviceCall) → has_flush calls ≡ false → pending calls ≡ calls

@@ -1,8 +1,8 @@
 -- Records as rows of fields: read from their bytes, and written piece by piece.
-use Rattle.std.proofs.Common.{◌≡◌, ℕ, zero, suc, ◌+◌, ◌-◌, ◌≤◌, true, List, [], ◌∷◌, ◌++◌, length, take, drop, replicate, refl, ap, sym, ◌∙◌, arith, length-append, length-drop}
+use Rattle.std.proofs.Common.{◌≡◌, ℕ, zero, suc, ◌+◌, ◌≤◌, true, List, [], ◌∷◌, ◌++◌, length, take, drop, replicate, refl, ap, sym, ◌∙◌, arith, length-append, length-drop}
 use Rattle.std.proofs.lemmas.List.{append-nil, append_assoc, drop-drop, drop_at, drop_all, take_at, get_or-drop, length-take-le}
 use Rattle.std.proofs.lemmas.Bool.{and_parts, eqb-true}
-use Rattle.lufs_base.specs.Fields.{AreBytes, number_in, u32_at, field_bytes, put_at}
+use Rattle.lufs_base.specs.Fields.{AreBytes, number_in, field_bytes, put_at}
 use Rattle.lufs_base.proofs.Spelling.{spelled_again_of}
 use Rattle.lufs_base.specs.Fields.{are_zeros}
 
@@ -57,11 +57,3 @@ pieces out xs ys at next place fits =
 pub whole_piece : (out bytes : List ℕ) → length bytes ≡ length out → put_at out 0 bytes ≡ bytes
 whole_piece out bytes long =
     ap (λ (l : List ℕ). bytes ++ l) (drop_all (0 + length bytes) out (omega arith)) ∙ append-nil bytes
-
--- the same of a field of four bytes, read the other way
-pub field_on : (bytes rest : List ℕ) (at : ℕ) → AreBytes bytes → at ≤ length bytes - 4 → 4 ≤ length bytes → drop (at + 4) bytes ≡ rest
-    → drop at bytes ≡ field_bytes 4 (u32_at bytes at) ++ rest
-field_on bytes rest at are inside long is = sym (field_again 4 at (at + 4) bytes rest are refl (omega arith) (sym is))
-
-pub zeros_are_copies : (bytes : List ℕ) → are_zeros bytes ≡ true → bytes ≡ replicate (length bytes) 0
-zeros_are_copies bytes test = sym (zeros_again (length bytes) bytes refl test)

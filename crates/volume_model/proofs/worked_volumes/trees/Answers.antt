@@ -1,0 +1,66 @@
+use Rattle.std.proofs.Common.{refl}
+use Rattle.lufs_base.specs.Fields.{number_in}
+use Rattle.volume_model.specs.MkfsImage.{made_block}
+use Rattle.volume_model.specs.GroupRecord.{clear_bits, group_bytes, group_of}
+use Rattle.volume_model.specs.InodeRecord.{dinode_bytes, dinode_of, numbers_in}
+use Rattle.volume_model.specs.DirectoryChunk.{slots_in}
+use Rattle.volume_model.specs.Reading.{reading_of}
+use Rattle.volume_model.specs.StandsFor.{tree_of}
+use Rattle.volume_model.specs.Tree.{free_blocks_of, shape_of}
+use Rattle.volume_model.proofs.worked_volumes.trees.Goals as goal
+
+pub returns-clause-new_root : goal.returns-clause-new_root
+unfolding number_in made_block clear_bits group_bytes group_of dinode_bytes dinode_of numbers_in slots_in reading_of tree_of
+returns-clause-new_root c = refl
+
+pub returns-clause-new_free_blocks : goal.returns-clause-new_free_blocks
+unfolding number_in made_block clear_bits group_bytes group_of dinode_bytes dinode_of numbers_in slots_in reading_of tree_of free_blocks_of
+returns-clause-new_free_blocks c = refl
+
+pub returns-clause-inodes : goal.returns-clause-inodes
+unfolding number_in made_block clear_bits group_bytes group_of dinode_bytes dinode_of numbers_in slots_in reading_of tree_of
+returns-clause-inodes c = refl
+
+pub returns-clause-free : goal.returns-clause-free
+unfolding number_in made_block clear_bits group_bytes group_of dinode_bytes dinode_of numbers_in slots_in reading_of tree_of
+returns-clause-free c = refl
+
+pub returns-clause-root : goal.returns-clause-root
+unfolding number_in made_block clear_bits group_bytes group_of dinode_bytes dinode_of numbers_in slots_in reading_of tree_of
+returns-clause-root c = refl
+
+pub returns-clause-file_with_holes : goal.returns-clause-file_with_holes
+unfolding number_in made_block clear_bits group_bytes group_of dinode_bytes dinode_of numbers_in slots_in reading_of tree_of
+returns-clause-file_with_holes c = refl
+
+pub returns-clause-directory_of_two_chunks : goal.returns-clause-directory_of_two_chunks
+unfolding number_in made_block clear_bits group_bytes group_of dinode_bytes dinode_of numbers_in slots_in reading_of tree_of
+returns-clause-directory_of_two_chunks c = refl
+
+pub returns-clause-symbolic_link : goal.returns-clause-symbolic_link
+unfolding number_in made_block clear_bits group_bytes group_of dinode_bytes dinode_of numbers_in slots_in reading_of tree_of
+returns-clause-symbolic_link c = refl
+
+pub returns-clause-free_blocks : goal.returns-clause-free_blocks
+unfolding number_in made_block clear_bits group_bytes group_of dinode_bytes dinode_of numbers_in slots_in reading_of tree_of free_blocks_of
+returns-clause-free_blocks c = refl
+
+pub returns-clause-shape : goal.returns-clause-shape
+unfolding number_in made_block clear_bits group_bytes group_of dinode_bytes dinode_of numbers_in slots_in reading_of tree_of shape_of
+returns-clause-shape c = refl
+
+pub returns-clause-large_root : goal.returns-clause-large_root
+unfolding number_in made_block clear_bits group_bytes group_of dinode_bytes dinode_of numbers_in slots_in reading_of tree_of free_blocks_of
+returns-clause-large_root c = refl
+
+pub returns-clause-one_chunk : goal.returns-clause-one_chunk
+returns-clause-one_chunk c = refl
+
+pub returns-clause-nine_chunks : goal.returns-clause-nine_chunks
+returns-clause-nine_chunks c = refl
+
+pub returns-clause-twelve_blocks : goal.returns-clause-twelve_blocks
+returns-clause-twelve_blocks c = refl
+
+pub returns-clause-thirteen_blocks : goal.returns-clause-thirteen_blocks
+returns-clause-thirteen_blocks c = refl
