@@ -1,5 +1,6 @@
 -- What the calls of a disk do to what it tells.
 use Rattle.std.specs.Prelude.{◌≡◌, ◌<◌, ◌⊎◌, ℕ, ◌/◌, ◌%◌, List, length, Option, IfSome, option_map, is_some, Contains, Result, OnOk, MatchResult}
+use Rattle.lufs_base.specs.Causes.{counted}
 use Rattle.volume_model.specs.declared.device_call.DeviceCall.{DeviceCall}
 use Rattle.volume_model.specs.declared.device_call.DeviceCall.TheVariants.{Flush}
 use Rattle.volume_model.specs.Image.{Image, sector, sectors_from, overwritten}
@@ -42,3 +43,21 @@ pub record GoesWith (r : Record) (faults : ℕ) (image : Image) : Type 0 where
 -- the content that is told goes with the calls that are told
 abbrev pub IsTold : Option Record → Option Image → ℕ → Type 0
 IsTold listed present faults = IfSome listed (λ r. IfSome present (GoesWith r faults))
+
+-- no call failed: both counts are as they were
+abbrev pub NoneFailed : (faults_before faults_now failed_at_before failed_at_now : ℕ) → Type 0
+NoneFailed faults_before faults_now failed_at_before failed_at_now = (faults_now ≡ faults_before) × (failed_at_now ≡ failed_at_before)
+
+-- one call failed, and no write and no flush was counted behind it
+abbrev pub FailedLast : (calls_now faults_before faults_now failed_at_now : ℕ) → Type 0
+FailedLast calls_now faults_before faults_now failed_at_now = (faults_now ≡ counted faults_before) × (failed_at_now ≡ calls_now)
+
+-- at Ok no call failed, and else just the last one
+abbrev pub CountsFailure : {T E : Type 0} → Result T E → (calls_now faults_before faults_now failed_at_before failed_at_now : ℕ) → Type 0
+CountsFailure result calls_now faults_before faults_now failed_at_before failed_at_now =
+    MatchResult result (λ _. NoneFailed faults_before faults_now failed_at_before failed_at_now) (λ _. FailedLast calls_now faults_before faults_now failed_at_now)
+
+-- no call failed, or one did and no write and no flush was counted behind it
+abbrev pub StopsAtFailure : (calls_now faults_before faults_now failed_at_before failed_at_now : ℕ) → Type 0
+StopsAtFailure calls_now faults_before faults_now failed_at_before failed_at_now =
+    NoneFailed faults_before faults_now failed_at_before failed_at_now ⊎ FailedLast calls_now faults_before faults_now failed_at_now

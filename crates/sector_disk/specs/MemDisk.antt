@@ -1,5 +1,5 @@
 -- A disk in memory, as its calls see it.
-use Rattle.std.specs.Prelude.{ℕ, Bool, if◌then◌else◌, List, [], ◌∷◌, ◌++◌, Vec, Option, Some, None}
+use Rattle.std.specs.Prelude.{ℕ, Bool, if◌then◌else◌, List, [], ◌∷◌, ◌++◌, length, Vec, Option, Some, None}
 use Rattle.std.specs.declared.alloc.Global.{Global}
 use Rattle.lufs_base.specs.Causes.{counted}
 use Rattle.volume_model.specs.declared.device_call.DeviceCall.{DeviceCall}
@@ -18,6 +18,8 @@ pub record State : Type 0 where
   pub writes : ℕ
   pub flushes : ℕ
   pub faults : ℕ
+  -- how many listed calls there were when a call last failed
+  pub failed_at : ℕ
   -- those that failed for want of memory
   pub starved : ℕ
 
@@ -32,6 +34,7 @@ new_state image fails = record {
   writes = 0;
   flushes = 0;
   faults = 0;
+  failed_at = 0;
   starved = 0;
 }
 
@@ -44,10 +47,6 @@ opening_of (Some kept) image = kept.items
 abbrev pub told_record : Option (Vec ℕ Global) → List ℕ → List DeviceCall → Record
 told_record opening image calls = record { opening = opening_of opening image; calls = calls }
 
--- a read was called, and failed or not
-abbrev pub after_read : Bool → State → State
-after_read failed s = record s { reads = counted s.reads; faults = if failed then counted s.faults else s.faults }
-
 -- a write was called and listed, and left this image
 abbrev pub after_write : DeviceCall → Image → State → State
 after_write call image s = record s { image = image; calls = s.calls ++ call ∷ []; writes = counted s.writes }
@@ -58,11 +57,15 @@ after_flush s = record s { calls = s.calls ++ Flush ∷ []; flushes = counted s.
 
 -- a call failed
 abbrev pub faulted_more : State → State
-faulted_more s = record s { faults = counted s.faults }
+faulted_more s = record s { faults = counted s.faults; failed_at = length s.calls }
+
+-- a read was called, and failed or not
+abbrev pub after_read : Bool → State → State
+after_read failed s = let called : State = record s { reads = counted s.reads } in if failed then faulted_more called else called
 
 -- a call failed for want of memory, and changed nothing else
 abbrev pub starved_more : State → State
-starved_more s = record s { faults = counted s.faults; starved = counted s.starved }
+starved_more s = record s { faults = counted s.faults; failed_at = length s.calls; starved = counted s.starved }
 
 -- what the disk tells of its listed calls
 abbrev pub record_of : State → Record

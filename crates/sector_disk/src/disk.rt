@@ -3,7 +3,7 @@ ghost use Rattle.lufs_base.specs.Causes.{HasCause};
 ghost use Rattle.volume_model.specs.Image.{Image, sectors_of};
 ghost use Rattle.volume_model.specs.Record.{Record};
 ghost use Rattle.volume_model.specs.declared.device_call.DeviceCall.TheVariants.{Write, Flush};
-ghost use Rattle.sector_disk.specs.Disk.{IsWhole, Reads, Writes, Lists, ListsFlush, IsTold};
+ghost use Rattle.sector_disk.specs.Disk.{IsWhole, Reads, Writes, Lists, ListsFlush, IsTold, CountsFailure};
 
 use lufs_base::DiskFault;
 
@@ -25,6 +25,10 @@ pub trait Disk: Drop {
     /// How many of its calls failed.
     ghost faults: { Self → ℕ };
 
+    /// How many writes and flushes it had counted when one of its calls last failed, that call among
+    /// them where it was counted.
+    ghost failed_at: { Self → ℕ };
+
     fn sectors(&self) -> u64
         ensures { result ≡ sectors self.now };
 
@@ -45,7 +49,8 @@ pub trait Disk: Drop {
         ensures listed { listed self.new ≡ listed self.old }
         ensures calls { calls self.new ≡ calls self.old }
         ensures sectors { sectors self.new ≡ sectors self.old }
-        ensures cause { HasCause (faults self.old) (faults self.new) result };
+        ensures cause { HasCause (faults self.old) (faults self.new) result }
+        ensures failure { CountsFailure result (calls self.new) (faults self.old) (faults self.new) (failed_at self.old) (failed_at self.new) };
 
     /// Writes whole sectors, from sector `first` on. After an `Err` each of them is old or new.
     fn write(&mut self, first: u64, bytes: &[u8]) -> Result<(), DiskFault>
@@ -56,7 +61,8 @@ pub trait Disk: Drop {
         ensures listed { Lists (Write first bytes.now) result (present self.old ≡ present self.new) (listed self.old) (listed self.new) }
         ensures calls { calls self.old ≤ calls self.new }
         ensures sectors { sectors self.new ≡ sectors self.old }
-        ensures cause { HasCause (faults self.old) (faults self.new) result };
+        ensures cause { HasCause (faults self.old) (faults self.new) result }
+        ensures failure { CountsFailure result (calls self.new) (faults self.old) (faults self.new) (failed_at self.old) (failed_at self.new) };
 
     /// Makes a crash keep what was written before. A failed flush is not listed.
     fn flush(&mut self) -> Result<(), DiskFault>
@@ -64,7 +70,8 @@ pub trait Disk: Drop {
         ensures listed { ListsFlush result (listed self.old) (listed self.new) }
         ensures calls { calls self.old ≤ calls self.new }
         ensures sectors { sectors self.new ≡ sectors self.old }
-        ensures cause { HasCause (faults self.old) (faults self.new) result };
+        ensures cause { HasCause (faults self.old) (faults self.new) result }
+        ensures failure { CountsFailure result (calls self.new) (faults self.old) (faults self.new) (failed_at self.old) (failed_at self.new) };
 
     /// What is told of the content has the disk's sectors.
     ghost size: { (d : Self) → IfSome (present d) (λ image. sectors_of image ≡ sectors d) };

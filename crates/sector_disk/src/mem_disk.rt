@@ -4,7 +4,7 @@ ghost use Rattle.sector_disk.specs.Chosen.{crash_of};
 ghost use Rattle.lufs_base.specs.Causes.{HasCause, Rose, counted};
 ghost use Rattle.volume_model.specs.Image.{sectors_of, overwritten};
 ghost use Rattle.volume_model.specs.declared.device_call.DeviceCall.TheVariants.{Write, Flush};
-ghost use Rattle.sector_disk.specs.Disk.{IsWhole, Reads, Writes, Lists, ListsFlush};
+ghost use Rattle.sector_disk.specs.Disk.{IsWhole, Reads, Writes, Lists, ListsFlush, CountsFailure};
 ghost use Rattle.sector_disk.specs.MemDisk.{new_state, opening_of, starved_more, faulted_more, after_read, after_write, after_flush, record_of};
 
 use crate::crash::crash_image;
@@ -35,6 +35,8 @@ pub struct MemDisk {
     writes: u64,
     flushes: u64,
     faults: u64,
+    // Only contracts read it.
+    failed_at: u64,
     starved: u64,
 }
 
@@ -53,6 +55,7 @@ impl Model for MemDisk {
       writes = d.writes;
       flushes = d.flushes;
       faults = d.faults;
+      failed_at = d.failed_at;
       starved = d.starved;
     } };
 
@@ -100,6 +103,7 @@ impl MemDisk {
             writes: 0,
             flushes: 0,
             faults: 0,
+            failed_at: 0,
             starved: 0,
         }
     }
@@ -121,13 +125,21 @@ impl MemDisk {
         crash_image(alloc, opening, &self.calls[..n as usize], choice)
     }
 
+    // Counts a call that failed.
+    fn fault(&mut self) -> DiskFault
+        ensures { self.new ≡ faulted_more self.old }
+    {
+        self.faults = self.faults.saturating_add(1);
+        self.failed_at = self.calls.len() as u64;
+        DiskFault
+    }
+
     // Counts a call that failed for want of memory.
     fn starve(&mut self) -> DiskFault
         ensures { self.new ≡ starved_more self.old }
     {
         self.starved = self.starved.saturating_add(1);
-        self.faults = self.faults.saturating_add(1);
-        DiskFault
+        self.fault()
     }
 
     /// How many calls failed for want of memory.
@@ -153,6 +165,8 @@ impl Disk for MemDisk {
 
     ghost faults = { λ d. d.faults };
 
+    ghost failed_at = { λ d. d.failed_at };
+
     fn sectors(&self) -> u64 {
         self.image.len() as u64 / 512
     }
@@ -174,11 +188,11 @@ impl Disk for MemDisk {
         ensures after { self.new ≡ after_read (is_err result) self.old }
         ensures bytes { Reads (Some self.old.image) first result out.new }
         ensures cause { HasCause self.old.faults self.new.faults result }
+        ensures failure { CountsFailure result (length self.new.calls) self.old.faults self.new.faults self.old.failed_at self.new.failed_at }
     {
         self.reads = self.reads.saturating_add(1);
         if is_named(&self.fails, Fail::Read(self.reads)) {
-            self.faults = self.faults.saturating_add(1);
-            return Err(DiskFault);
+            return Err(self.fault());
         }
         let at = 512 * first as usize;
         out.copy_from_slice(&self.image[at..at + out.len()]);
@@ -197,6 +211,7 @@ impl Disk for MemDisk {
             ⊎ (self.new ≡ starved_more (record self.old { writes = counted self.old.writes }))) }
         ensures content { Writes first bytes.now result (Some self.old.image) (Some self.new.image) }
         ensures cause { HasCause self.old.faults self.new.faults result }
+        ensures failure { CountsFailure result (length self.new.calls) self.old.faults self.new.faults self.old.failed_at self.new.failed_at }
     {
         self.writes = self.writes.saturating_add(1);
         let Ok(kept) = Bytes::from_slice(*self.image.allocator(), bytes) else {
@@ -207,7 +222,9 @@ impl Disk for MemDisk {
             return Err(self.starve());
         }
         if is_named(&self.fails, Fail::Write(self.writes)) {
+            // Not by `fault`: until the failure is counted the image doesn't go with the list.
             self.faults = self.faults.saturating_add(1);
+            self.failed_at = self.calls.len() as u64;
             return Err(DiskFault);
         }
         put(&mut self.image, first, bytes);
@@ -222,11 +239,11 @@ impl Disk for MemDisk {
             (Contains self.old.fails (Fail.Flush (counted self.old.flushes)) × (self.new ≡ faulted_more (record self.old { flushes = counted self.old.flushes })))
             ⊎ (self.new ≡ starved_more (record self.old { flushes = counted self.old.flushes }))) }
         ensures cause { HasCause self.old.faults self.new.faults result }
+        ensures failure { CountsFailure result (length self.new.calls) self.old.faults self.new.faults self.old.failed_at self.new.failed_at }
     {
         self.flushes = self.flushes.saturating_add(1);
         if is_named(&self.fails, Fail::Flush(self.flushes)) {
-            self.faults = self.faults.saturating_add(1);
-            return Err(DiskFault);
+            return Err(self.fault());
         }
         if list(
             &self.image,

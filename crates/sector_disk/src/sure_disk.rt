@@ -48,6 +48,8 @@ impl Disk for SureDisk {
 
     ghost faults = { λ _. 0 };
 
+    ghost failed_at = { λ _. 0 };
+
     fn sectors(&self) -> u64 {
         self.image.len() as u64 / 512
     }
