@@ -37,8 +37,11 @@ asks_with kind name asks (a ∷ more) = asks ++ record { kind = kind; name = nam
 abbrev pub IsAsked : {T : Type 0} → AskKind → List ℕ → Result T HostError → Option (List Ask) → Option (List Ask) → Type 0
 IsAsked kind name result old new = new ≡ option_map (λ asks. asks_with kind name asks (answers_of result)) old
 
--- A disk that was made: so many sectors, zeros where it tells them, and no call before.
-pub record IsZeroDisk (has : ℕ) (present : Option Image) (listed : Option Record) (sectors : ℕ) : Type 0 where
+-- A disk that was made: so many sectors, zeros where it tells them, and no call and no failure before.
+pub record IsZeroDisk (has : ℕ) (present : Option Image) (listed : Option Record) (calls faults failed_at sectors : ℕ) : Type 0 where
   pub size : has ≡ sectors
   pub zeros : IfSome present (λ image. image ≡ replicate (512 * sectors) 0)
   pub no_call : IfSome listed (λ r. r.calls ≡ [])
+  pub none_counted : calls ≡ 0
+  pub none_failed : faults ≡ 0
+  pub never_failed : failed_at ≡ 0

@@ -123,7 +123,7 @@ pub trait Host {
     fn make_disk(&mut self, name: &str, sectors: u64) -> Result<Self::D, HostError>
         ensures value { IfSome (disk_at self.old name.now) (λ disk. IfOk result (λ d. d ≡ disk)) }
         ensures made { IsTrue (tells self.old) → disk_at self.old name.now ≡ None → IfOk result (λ d.
-            IsZeroDisk (Self.D.sectors d) (Self.D.present d) (Self.D.listed d) sectors) }
+            IsZeroDisk (Self.D.sectors d) (Self.D.present d) (Self.D.listed d) (Self.D.calls d) (Self.D.faults d) (Self.D.failed_at d) sectors) }
         ensures not_missing { result ≢ Err Missing }
         ensures lent { OnOk result (IsTrue (disk_lent self.new name.now)) }
         ensures other_disks { (q : List ℕ) → q ≢ name.now → (disk_at self.new q ≡ disk_at self.old q) × (disk_lent self.new q ≡ disk_lent self.old q) }

@@ -1,4 +1,4 @@
-ghost use Rattle.std.specs.Prelude.{◌≡◌, ◌≢◌, ◌<◌, ◌*◌, ◌∷◌, ◌++◌, [], replicate, OnOk, OnErr, IsTrue, Contains, ◌↔◌, IfOk};
+ghost use Rattle.std.specs.Prelude.{◌≡◌, ◌≢◌, ◌<◌, ◌*◌, ◌∷◌, ◌++◌, [], length, replicate, OnOk, OnErr, IsTrue, Contains, ◌↔◌, IfOk};
 ghost use Rattle.std.specs.Option.{option_copied, option_map};
 ghost use Rattle.lufs_base.specs.Causes.{counted};
 ghost use Rattle.host_io.specs.Named.{held_at, lent_at};
@@ -231,7 +231,7 @@ impl Host for MemHost {
         ensures value { IfSome (held_at self.old.disks.items name.now) (λ disk. IfOk result (λ d. d ≡ disk)) }
         ensures new { held_at self.old.disks.items name.now ≡ None → IfOk result (λ d. d ≡ new_disk (replicate (512 * sectors) 0) []) }
         ensures made { IsTrue true → held_at self.old.disks.items name.now ≡ None → IfOk result (λ d.
-            IsZeroDisk (sectors_of d.image) (Some d.image) (Some (record_of d)) sectors) }
+            IsZeroDisk (sectors_of d.image) (Some d.image) (Some (record_of d)) (length d.calls) d.faults d.failed_at sectors) }
         ensures not_missing { result ≢ Err Missing }
         ensures lent { OnOk result (IsTrue (lent_at self.new.disks.items name.now)) }
         ensures other_disks { (q : List ℕ) → q ≢ name.now → (held_at self.new.disks.items q ≡ held_at self.old.disks.items q) × (lent_at self.new.disks.items q ≡ lent_at self.old.disks.items q) }

@@ -1,4 +1,5 @@
-ghost use Rattle.std.specs.Prelude.{ℕ, ◌*◌, ◌<◌, ◌^◌, None};
+ghost use Rattle.std.specs.Prelude.{◌≡◌, ◌≤◌, ℕ, ◌*◌, ◌<◌, ◌^◌, None};
+ghost use Rattle.lufs_base.specs.Causes.{counted};
 
 use sector_disk::{Disk, DiskFault};
 use std::fs::File;
@@ -13,6 +14,8 @@ pub struct FileDisk {
     sectors: u64,
     calls: u64,
     faults: u64,
+    // Only contracts read it.
+    failed_at: u64,
     ghost fits: { 512 * sectors < 2 ^ 64 },
 }
 
@@ -24,7 +27,21 @@ impl FileDisk {
             sectors: bytes / 512,
             calls: 0,
             faults: 0,
+            failed_at: 0,
         })
+    }
+
+    // Counts a call that failed.
+    fn fault(&mut self) -> DiskFault
+        ensures count { self.new.faults ≡ counted self.old.faults }
+        ensures later { self.old.faults ≤ self.new.faults }
+        ensures last { self.new.failed_at ≡ self.new.calls }
+        ensures calls { self.new.calls ≡ self.old.calls }
+        ensures sectors { self.new.sectors ≡ self.old.sectors }
+    {
+        self.faults = self.faults.saturating_add(1);
+        self.failed_at = self.calls;
+        DiskFault
     }
 }
 
@@ -38,6 +55,8 @@ impl Disk for FileDisk {
     ghost calls = { λ d. d.calls };
 
     ghost faults = { λ d. d.faults };
+
+    ghost failed_at = { λ d. d.failed_at };
 
     ghost size = { λ _. tt };
 
@@ -57,8 +76,7 @@ impl Disk for FileDisk {
 
     fn read(&mut self, first: u64, out: &mut [u8]) -> Result<(), DiskFault> {
         if self.file.read_exact_at(out, 512 * first).is_err() {
-            self.faults = self.faults.saturating_add(1);
-            return Err(DiskFault);
+            return Err(self.fault());
         }
         Ok(())
     }
@@ -66,8 +84,7 @@ impl Disk for FileDisk {
     fn write(&mut self, first: u64, bytes: &[u8]) -> Result<(), DiskFault> {
         self.calls = self.calls.saturating_add(1);
         if self.file.write_all_at(bytes, 512 * first).is_err() {
-            self.faults = self.faults.saturating_add(1);
-            return Err(DiskFault);
+            return Err(self.fault());
         }
         Ok(())
     }
@@ -75,8 +92,7 @@ impl Disk for FileDisk {
     /// The file's full sync.
     fn flush(&mut self) -> Result<(), DiskFault> {
         if self.file.sync_all().is_err() {
-            self.faults = self.faults.saturating_add(1);
-            return Err(DiskFault);
+            return Err(self.fault());
         }
         self.calls = self.calls.saturating_add(1);
         Ok(())
