@@ -3,7 +3,7 @@ ghost use Rattle.lufs_base.specs.Causes.{Rose, HasCause};
 ghost use Rattle.lufs_base.specs.Layout.{IsGeometry, ring_of, blocks_of};
 ghost use Rattle.volume_model.specs.Image.{sector, sectors_in};
 ghost use Rattle.volume_model.specs.Log.{transactions_from, ring_from, log_of};
-ghost use Rattle.sector_disk.specs.Disk.{Reads};
+ghost use Rattle.sector_disk.specs.Disk.{Reads, CountsFailure, NoneFailed, FailedLast};
 ghost use Rattle.log_scan.specs.declared.log.ScanError.TheVariants.{Disk, BadHeader, Mem};
 ghost use Rattle.log_scan.specs.Ring.{transactions_of};
 ghost use Rattle.log_scan.specs.Answers.{IsTx, IsListing, IsScan};
@@ -148,6 +148,7 @@ fn read_any<D: Disk>(disk: &mut D, first: u64, out: &mut [u8]) -> Result<(), Dis
     ensures calls { D.calls disk.new ≡ D.calls disk.old }
     ensures sectors { D.sectors disk.new ≡ D.sectors disk.old }
     ensures cause { HasCause (D.faults disk.old) (D.faults disk.new) result }
+    ensures failure { CountsFailure result (D.calls disk.new) (D.faults disk.old) (D.faults disk.new) (D.failed_at disk.old) (D.failed_at disk.new) }
 {
     if out.is_empty() {
         return Ok(());
@@ -173,6 +174,7 @@ fn read_ring<D: Disk>(
     ensures calls { D.calls disk.new ≡ D.calls disk.old }
     ensures sectors { D.sectors disk.new ≡ D.sectors disk.old }
     ensures cause { HasCause (D.faults disk.old) (D.faults disk.new) result }
+    ensures failure { CountsFailure result (D.calls disk.new) (D.faults disk.old) (D.faults disk.new) (D.failed_at disk.old) (D.failed_at disk.new) }
 {
     let turn = SECTOR * (geometry.ring() - head) as usize;
     read_any(disk, HEADER + 1 + u64::from(head), &mut out[..turn])?;
@@ -198,6 +200,8 @@ fn read_transactions<D: Disk>(
     ensures sectors { D.sectors disk.new ≡ D.sectors disk.old }
     ensures later { D.faults disk.old ≤ D.faults disk.new }
     ensures cause { IsErrOf result ScanError.Disk → Rose (D.faults disk.old) (D.faults disk.new) }
+    ensures failed { IsErrOf result ScanError.Disk → FailedLast (D.calls disk.new) (D.faults disk.old) (D.faults disk.new) (D.failed_at disk.new) }
+    ensures none_failed { ¬ IsErrOf result ScanError.Disk → NoneFailed (D.faults disk.old) (D.faults disk.new) (D.failed_at disk.old) (D.failed_at disk.new) }
 {
     read_ring(disk, geometry, header.head, ring)?;
     transactions(alloc, geometry, header, ring)
@@ -219,6 +223,8 @@ pub fn scan<D: Disk>(
     ensures sectors { D.sectors disk.new ≡ D.sectors disk.old }
     ensures later { D.faults disk.old ≤ D.faults disk.new }
     ensures cause { IsErrOf result ScanError.Disk → Rose (D.faults disk.old) (D.faults disk.new) }
+    ensures failed { IsErrOf result ScanError.Disk → FailedLast (D.calls disk.new) (D.faults disk.old) (D.faults disk.new) (D.failed_at disk.new) }
+    ensures none_failed { ¬ IsErrOf result ScanError.Disk → NoneFailed (D.faults disk.old) (D.faults disk.new) (D.failed_at disk.old) (D.failed_at disk.new) }
 {
     let mut sector = [0u8; SECTOR];
     disk.read(HEADER, &mut sector)?;
