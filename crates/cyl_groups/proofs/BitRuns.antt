@@ -43,22 +43,11 @@ zeros_from_clear bits k are clear =
     ∙ clear i (omega arith) in
     bit_is_zero (slice_index bits (k + j) / 2 ^ m % 2) (bit_at-lt (slice_index bits (k + j)) m) here ∙ sym (bit_at-zero m)))
 
-set_in_range : (bits : List ℕ) (a n : ℕ) → list_all (λ i. bit_at bits i) (range_with_len a n) ≡ true
-    → (i : ℕ) → a ≤ i → i < a + n → bit_at bits i ≡ true
-set_in_range bits a zero all i low high = absurd (omega arith)
-set_in_range bits a (suc n) all i low high = elim (cases_eq i a) [
-  | inl same ↦ ap (λ (k : ℕ). bit_at bits k) same ∙ (and_parts _ _ all).0
-  | inr differs ↦ set_in_range bits (a + 1) n (and_parts _ _ all).1 i (omega arith) (omega arith)
-]
-
 range_set : (bits : List ℕ) (a n : ℕ) → ((i : ℕ) → a ≤ i → i < a + n → bit_at bits i ≡ true)
     → list_all (λ i. bit_at bits i) (range_with_len a n) ≡ true
 range_set bits a zero set = refl
 range_set bits a (suc n) set =
     and_from _ _ (set a (omega arith) (omega arith)) (range_set bits (a + 1) n (λ i low high. set i (omega arith) (omega arith)))
-
-pub each_set : (bits : List ℕ) (n : ℕ) → are_set bits n ≡ true → (i : ℕ) → i < n → bit_at bits i ≡ true
-each_set bits n all i below = set_in_range bits 0 n all i (omega arith) (omega arith)
 
 pub set_from_each : (bits : List ℕ) (n : ℕ) → ((i : ℕ) → i < n → bit_at bits i ≡ true) → are_set bits n ≡ true
 set_from_each bits n set = range_set bits 0 n (λ i low high. set i (omega arith))

@@ -7,7 +7,8 @@ use Rattle.lufs_base.specs.Layout.{IsGeometry}
 use Rattle.lufs_base.specs.declared.geometry.Geometry.{Geometry}
 use Rattle.lufs_base.proofs.TestedValue.{refused, given}
 use Rattle.volume_model.specs.GroupRecord.{GroupRecord, bit_at, are_set, named_group, has_clear_rest, has_reserved, is_group, group_of, IsGroup}
-use Rattle.cyl_groups.proofs.BitRuns.{clear_from_zeros, zeros_from_clear, each_set, set_from_each}
+use Rattle.volume_model.proofs.SetBits.{each_set}
+use Rattle.cyl_groups.proofs.BitRuns.{clear_from_zeros, zeros_from_clear, set_from_each}
 
 pub record Passes (g : Geometry) (n : ℕ) (bytes : List ℕ) : Type 0 where
   pub magic : u32_at bytes 0 ≡ 0x00090255

@@ -1,9 +1,9 @@
 -- A log header and its sector determine each other.
-use Rattle.std.proofs.Common.{◌≡◌, ℕ, ◌-◌, List, ◌++◌, length, drop, replicate, Some, refl, sym, ap, ◌∙◌, arith, length-drop}
+use Rattle.std.proofs.Common.{◌≡◌, ℕ, List, ◌++◌, length, drop, replicate, Some, refl, sym, ap, ◌∙◌, arith, length-drop}
 use Rattle.lufs_base.specs.Fields.{AreBytes, u32_at, field_bytes, put_at}
 use Rattle.lufs_base.specs.declared.geometry.Geometry.{Geometry}
 use Rattle.lufs_base.proofs.Spelling.{read_back_of}
-use Rattle.volume_model.proofs.Pieces.{field_on, zeros_are_copies}
+use Rattle.volume_model.proofs.Pieces.{field_again, zeros_again}
 use Rattle.volume_model.specs.declared.log.Header.{Header}
 use Rattle.volume_model.specs.LogHeader.{header_of, header_bytes, MayBeHeader}
 use Rattle.log_format.proofs.HeaderTests.{a_header, is_header_of}
@@ -47,11 +47,11 @@ pub header_spells : (g : Geometry) (h : Header) (s : List ℕ) → AreBytes s �
 unfolding header_bytes
 header_spells g h s are size is =
     let found = is_header_of g s h is in
-    let zeros : drop 16 s ≡ replicate 496 0 = zeros_are_copies (drop 16 s) found.0.zeros ∙ ap (λ (n : ℕ). replicate n 0) (length-drop 16 s ∙ ap (λ (n : ℕ). n - 16) size) in
-    let tid = field_on s (replicate 496 0) 12 are (omega arith) (omega arith) zeros in
-    let head = field_on s (field_bytes 4 (u32_at s 12) ++ replicate 496 0) 8 are (omega arith) (omega arith) tid in
-    let epoch = field_on s (field_bytes 4 (u32_at s 8) ++ (field_bytes 4 (u32_at s 12) ++ replicate 496 0)) 4 are (omega arith) (omega arith) head in
-    let magic = field_on s (field_bytes 4 (u32_at s 4) ++ (field_bytes 4 (u32_at s 8) ++ (field_bytes 4 (u32_at s 12) ++ replicate 496 0))) 0 are (omega arith) (omega arith) epoch in
+    let zeros = zeros_again 496 (drop 16 s) (omega (arith, length-drop 16 s, size)) found.0.zeros in
+    let tid = field_again 4 12 16 s _ are (omega arith) (omega (arith, size)) zeros in
+    let head = field_again 4 8 12 s _ are (omega arith) (omega (arith, size)) tid in
+    let epoch = field_again 4 4 8 s _ are (omega arith) (omega (arith, size)) head in
+    let magic = field_again 4 0 4 s _ are (omega arith) (omega (arith, size)) epoch in
     ap header_bytes found.1
     ∙ ap (λ (n : ℕ). field_bytes 4 n ++ (field_bytes 4 (u32_at s 4) ++ (field_bytes 4 (u32_at s 8) ++ (field_bytes 4 (u32_at s 12) ++ replicate 496 0)))) (sym found.0.magic)
-    ∙ sym magic
+    ∙ magic

@@ -1,12 +1,12 @@
 -- A superblock and its sector determine each other.
-use Rattle.std.proofs.Common.{◌≡◌, ℕ, ◌<◌, ◌≤◌, ◌-◌, ◌*◌, ◌^◌, true, List, ◌++◌, length, drop, replicate, Some, refl, sym, ap, subst, ◌∙◌, arith, length-drop}
+use Rattle.std.proofs.Common.{◌≡◌, ℕ, ◌<◌, ◌≤◌, ◌*◌, ◌^◌, true, List, ◌++◌, length, drop, replicate, Some, refl, sym, ap, subst, ◌∙◌, arith, length-drop}
 use Rattle.std.proofs.Math.Nat.{mul-le-mul}
 use Rattle.std.proofs.lemmas.Bool.{and_from, eq-eqb, le-leb}
 use Rattle.lufs_base.specs.Fields.{AreBytes, u32_at, field_bytes, put_at}
 use Rattle.lufs_base.specs.Layout.{IsGeometry, blocks_of}
 use Rattle.lufs_base.specs.declared.geometry.Geometry.{Geometry}
 use Rattle.lufs_base.proofs.Spelling.{read_back_of}
-use Rattle.volume_model.proofs.Pieces.{field_on, zeros_are_copies}
+use Rattle.volume_model.proofs.Pieces.{field_again, zeros_again}
 use Rattle.volume_model.specs.Superblock.{is_geometry, named_geometry, super_of, super_bytes}
 use Rattle.ufs_super.proofs.SuperblockTests.{a_super, is_super_of}
 
@@ -73,16 +73,16 @@ unfolding super_bytes
 super_spells g s sectors are size is =
     let found = is_super_of s sectors g is in
     let n : Geometry = named_geometry s in
-    let zeros : drop 28 s ≡ replicate 484 0 = zeros_are_copies (drop 28 s) found.0.zeros ∙ ap (λ (n : ℕ). replicate n 0) (length-drop 28 s ∙ ap (λ (n : ℕ). n - 28) size) in
-    let blocks = field_on s (replicate 484 0) 24 are (omega arith) (omega arith) zeros in
-    let log = field_on s (field_bytes 4 (u32_at s 24) ++ replicate 484 0) 20 are (omega arith) (omega arith) blocks in
-    let log_of_name = log ∙ ap (λ (k : ℕ). field_bytes 4 n.log ++ (field_bytes 4 k ++ replicate 484 0)) found.0.blocks in
-    let ipg = field_on s (log_on n) 16 are (omega arith) (omega arith) log_of_name in
-    let bpg = field_on s (ipg_on n) 12 are (omega arith) (omega arith) ipg in
-    let groups = field_on s (bpg_on n) 8 are (omega arith) (omega arith) bpg in
-    let version = field_on s (groups_on n) 4 are (omega arith) (omega arith) groups in
-    let magic = field_on s (version_on n) 0 are (omega arith) (omega arith) version in
-    ap super_bytes found.1 ∙ ap (λ (k : ℕ). field_bytes 4 k ++ version_on n) (sym found.0.magic) ∙ sym magic
+    let zeros = zeros_again 484 (drop 28 s) (omega (arith, length-drop 28 s, size)) found.0.zeros in
+    let blocks = field_again 4 24 28 s _ are (omega arith) (omega (arith, size)) zeros in
+    let log = field_again 4 20 24 s _ are (omega arith) (omega (arith, size)) blocks in
+    let log_of_name = ap (λ (k : ℕ). field_bytes 4 n.log ++ (field_bytes 4 k ++ replicate 484 0)) (sym found.0.blocks) ∙ log in
+    let ipg = field_again 4 16 20 s (log_on n) are (omega arith) (omega (arith, size)) log_of_name in
+    let bpg = field_again 4 12 16 s (ipg_on n) are (omega arith) (omega (arith, size)) ipg in
+    let groups = field_again 4 8 12 s (bpg_on n) are (omega arith) (omega (arith, size)) bpg in
+    let version = field_again 4 4 8 s (groups_on n) are (omega arith) (omega (arith, size)) groups in
+    let magic = field_again 4 0 4 s (version_on n) are (omega arith) (omega (arith, size)) version in
+    ap super_bytes found.1 ∙ ap (λ (k : ℕ). field_bytes 4 k ++ version_on n) (sym found.0.magic) ∙ magic
 
 -- the seven fields written over zeros
 pub super_written : (g : Geometry) (total size : ℕ) (zeros one two three four five six out : List ℕ) → total ≡ blocks_of g → size ≡ 512 → zeros ≡ replicate size 0
