@@ -1,9 +1,9 @@
 -- Bytes whose first bits are set, put in one after the other.
 use Rattle.std.proofs.Common.{◌≡◌, ◌<◌, ◌≤◌, ℕ, ◌+◌, ◌-◌, ◌*◌, ◌^◌, min, List, length, slice_index, set, inl, inr, ap, sym, ◌∙◌, arith}
 use Rattle.std.proofs.lemmas.List.{ext_get_or, get_or-set_same, get_or-set_other, length-set}
-use Rattle.std.proofs.lemmas.List.FromFn.{get_or-map-range_with_len, length-map-range_with_len}
-use Rattle.lufs_base.proofs.Places.{or_less}
 use Rattle.volume_model.specs.MkfsImage.{first_bits}
+use Rattle.lufs_top.proofs.FirstBits.{length-first_bits, byte_of_first}
+use Rattle.std.proofs.lemmas.Bool.{cases_lt}
 
 -- the bytes that are put so far
 pub record ArePut (n count done : ℕ) (bits : List ℕ) : Type 0 where
@@ -14,7 +14,7 @@ pub one_more : (n count i x : ℕ) (bits : List ℕ) → i < count → x ≡ 2 ^
 one_more n count i x bits within is so_far = record {
   size = length-set bits i x ∙ so_far.size;
   put = λ k below.
-      elim (or_less k i) [
+      elim (cases_lt k i) [
         | inl before ↦ get_or-set_other bits i k x 0 (λ same. omega (arith, same, before)) ∙ so_far.put k before
         | inr here ↦
             let same : k ≡ i = omega (arith, below, here) in
@@ -25,6 +25,5 @@ one_more n count i x bits within is so_far = record {
 
 pub all_put : (n count done : ℕ) (bits : List ℕ) → count ≤ done → ArePut n count done bits → bits ≡ first_bits n count
 all_put n count done bits all so_far =
-    ext_get_or 0 bits (first_bits n count) (so_far.size ∙ sym (length-map-range_with_len (λ i. 2 ^ min 8 (n - 8 * i) - 1) 0 count)) (λ k below.
-    so_far.put k (omega (arith, below, all, so_far.size))
-    ∙ sym (get_or-map-range_with_len (λ i. 2 ^ min 8 (n - 8 * i) - 1) 0 count k k 0 (omega (arith, below, so_far.size)) (omega arith)))
+    ext_get_or 0 bits (first_bits n count) (so_far.size ∙ sym (length-first_bits n count)) (λ k below.
+    so_far.put k (omega (arith, below, all, so_far.size)) ∙ sym (byte_of_first n count k (omega (arith, below, so_far.size))))

@@ -1,8 +1,7 @@
 -- What was read of a disk, where the disk tells its content.
-use Rattle.std.proofs.Common.{◌≡◌, ℕ, ◌*◌, ◌/◌, ◌≤◌, true, List, length, Option, Some, None, Result, Ok, Err, sym, ◌∙◌, ap, arith}
+use Rattle.std.proofs.Common.{◌≡◌, ℕ, ◌/◌, ◌≤◌, true, List, length, Option, Some, None, Result, Ok, Err, sym, ◌∙◌, ap, arith}
 use Rattle.std.specs.Prelude.{IfSome, OnOk, is_ok, option_and_then}
-use Rattle.std.proofs.lemmas.Bool.{and_parts, leb-true, cond-false, false_from_ne_true, false≢true}
-use Rattle.lufs_base.specs.Layout.{blocks_of}
+use Rattle.std.proofs.lemmas.Bool.{and_parts, leb-true, false≢true}
 use Rattle.lufs_base.specs.declared.geometry.Geometry.{Geometry}
 use Rattle.volume_model.specs.Image.{Image, sectors_of, sectors_from, sector}
 use Rattle.volume_model.specs.declared.log.Header.{Header}
@@ -12,8 +11,9 @@ use Rattle.volume_model.specs.Log.{Behind, Listed, log_of}
 use Rattle.log_scan.specs.Answers.{IsScan}
 use Rattle.log_scan.specs.declared.log.ScanError.{ScanError}
 use Rattle.log_scan.specs.declared.log.ScanError.TheVariants as scans
+use Rattle.ufs_super.proofs.SuperblockTests.{no_super}
 use Rattle.lufs_top.specs.Ending.{IsEndingOf, ending_of_error}
-use Rattle.volume_model.specs.Superblock.{is_geometry, named_geometry, is_super, super_of, geometry_of}
+use Rattle.volume_model.specs.Superblock.{is_geometry, named_geometry, super_of, geometry_of}
 
 -- what holds of the content follows from two things that hold of it
 pub if_both : {X : Type 0} (P Q R : X → Type 0) (o : Option X) → ((x : X) → P x → Q x → R x) → IfSome o P → IfSome o Q → IfSome o R
@@ -32,16 +32,7 @@ log_of_geometry g test =
 
 -- a volume has more than 16 sectors
 super_of-small : (s : List ℕ) (n : ℕ) → n ≤ 16 → super_of s n ≡ None
-unfolding super_of
-super_of-small s n small =
-    cond-false (is_super s n) (Some (named_geometry s)) None (false_from_ne_true (is_super s n) (λ test.
-    let four = and_parts _ _ test in
-    let three = and_parts _ _ four.0 in
-    let two = and_parts _ _ three.0 in
-    let one = and_parts _ _ two.0 in
-    let fits : 8 * blocks_of (named_geometry s) ≤ n = leb-true _ _ four.1 in
-    let log = log_of_geometry (named_geometry s) one.1 in
-    absurd (omega arith)))
+super_of-small s n small = sym (no_super s n (λ is. let log = log_of_geometry (named_geometry s) is.range in omega (arith, is.fits, log, small)))
 
 pub geometry_of-small : (n : ℕ) → n ≤ 16 → (image : Image) → sectors_of image ≡ n → geometry_of image ≡ None
 geometry_of-small n small image size = super_of-small (sector image 16) (sectors_of image) (omega arith)

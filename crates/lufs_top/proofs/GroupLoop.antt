@@ -9,18 +9,19 @@ use Rattle.volume_model.specs.declared.device_call.DeviceCall.{DeviceCall}
 use Rattle.volume_model.specs.declared.device_call.DeviceCall.TheVariants.{Write}
 use Rattle.volume_model.specs.Image.{Image}
 use Rattle.volume_model.specs.Record.{Record}
-use Rattle.sector_disk.specs.Disk.{Writes, Lists}
+use Rattle.sector_disk.specs.Disk.{Writes, Lists, NoneFailed}
 use Rattle.lufs_top.specs.Mkfs.{HasMade, IsRoom, metadata_with, other_metadata, group_call, group_calls}
 use Rattle.std.proofs.lemmas.Bool.{cond-false, ne_eqb}
 use Rattle.lufs_top.proofs.Making.{HasBegun, write_makes, made_of, begun_of, begun_more, begun_then, made_then}
 
 -- the first n groups are written
-pub record HasGroups (g : Geometry) (first other : List ℕ) (n : ℕ) (p q : Option Image) (l m : Option Record) (had has before now faults_before faults : ℕ) : Type 0 where
+pub record HasGroups (g : Geometry) (first other : List ℕ) (n : ℕ) (p q : Option Image) (l m : Option Record) (had has before now faults_before faults failed_at_before failed_at : ℕ) : Type 0 where
   pub made : HasMade (group_calls g first n) p q l m
   pub room : IsRoom g other
   pub size : has ≡ had
   pub count : before ≤ now
   pub later : faults_before ≤ faults
+  pub none_failed : NoneFailed faults_before faults failed_at_before failed_at
 
 -- the call that writes group n, by the number of its first sector
 same_call : (g : Geometry) (first bytes : List ℕ) (n at : ℕ) → at ≡ 8 * group_start g n → bytes ≡ metadata_with g first n → Write at bytes ∷ [] ≡ group_call g first n ∷ []
@@ -56,19 +57,20 @@ calls_from g first n (suc more) =
           ∙ ap (λ (calls : List DeviceCall). calls ++ group_call g first (n + more) ∷ []) before.1 ∙ append_assoc (group_calls g first n) before.0 (group_call g first (n + more) ∷ []),
     )
 
+calls_begun : (g : Geometry) (first : List ℕ) (n groups : ℕ) (l m : Option Record) → n ≤ groups → HasBegun (group_calls g first n) l m → HasBegun (group_calls g first groups) l m
+calls_begun g first n groups l m within begun =
+    let rest = calls_from g first n (groups - n) in
+    let all : group_calls g first groups ≡ group_calls g first n ++ rest.0 = ap (λ (k : ℕ). group_calls g first k) (let same : groups ≡ n + (groups - n) = omega (arith, within) in same) ∙ rest.1 in
+    subst (λ (calls : List DeviceCall). HasBegun calls l m) (sym all) (begun_more (group_calls g first n) rest.0 l m begun)
+
 pub groups_begun : (g : Geometry) (first : List ℕ) (n groups : ℕ) (p q : Option Image) (l m t : Option Record) → n < groups → HasMade (group_calls g first n) p q l m
     → HasBegun (group_call g first n ∷ []) m t → HasBegun (group_calls g first groups) l t
 groups_begun g first n groups p q l m t within made begun =
     let here : HasBegun (group_calls g first (n + 1)) l t = subst (λ (calls : List DeviceCall). HasBegun calls l t) (sym (more_calls g first n)) (begun_then (group_calls g first n) (group_call g first n ∷ []) p q l m t made begun) in
-    let rest = calls_from g first (n + 1) (groups - (n + 1)) in
-    let all : group_calls g first groups ≡ group_calls g first (n + 1) ++ rest.0 = ap (λ (k : ℕ). group_calls g first k) (let same : groups ≡ n + 1 + (groups - (n + 1)) = omega (arith, within) in same) ∙ rest.1 in
-    subst (λ (calls : List DeviceCall). HasBegun calls l t) (sym all) (begun_more (group_calls g first (n + 1)) rest.0 l t here)
+    calls_begun g first (n + 1) groups l t (omega (arith, within)) here
 
 pub metadata_behind : (g : Geometry) (first bytes : List ℕ) (n : ℕ) → 1 ≤ n → bytes ≡ other_metadata g n → bytes ≡ metadata_with g first n
 metadata_behind g first bytes n later is = is ∙ sym (cond-false (n == 0) first (other_metadata g n) (ne_eqb n 0 (λ same. omega (arith, same, later))))
 
 pub all_begun : (g : Geometry) (first : List ℕ) (groups : ℕ) (l m : Option Record) → 1 ≤ groups → HasBegun (group_call g first 0 ∷ []) l m → HasBegun (group_calls g first groups) l m
-all_begun g first groups l m some begun =
-    let rest = calls_from g first 1 (groups - 1) in
-    let all : group_calls g first groups ≡ group_calls g first 1 ++ rest.0 = ap (λ (k : ℕ). group_calls g first k) (let same : groups ≡ 1 + (groups - 1) = omega (arith, some) in same) ∙ rest.1 in
-    subst (λ (calls : List DeviceCall). HasBegun calls l m) (sym all) (begun_more (group_calls g first 1) rest.0 l m begun)
+all_begun g first groups l m some begun = calls_begun g first 1 groups l m some begun

@@ -64,6 +64,10 @@ length-metadata g moment (suc n) ok =
 pub groups_rise : (g : Geometry) (i n : ℕ) → i < n → group_start g i + g.bpg ≤ group_start g n
 groups_rise g i n less = let over : (i + 1) * g.bpg ≤ n * g.bpg = mul-le-mul_right g.bpg (omega arith) in omega (arith, over, add-mul i 1 g.bpg)
 
+pub first_group : (g : Geometry) (n : ℕ) → IsGeometry g → group_start g n ≤ group_start g 0 → n ≡ 0
+first_group g zero ok low = refl
+first_group g (suc n) ok low = absurd (let rises = groups_rise g 0 (suc n) (omega arith) in omega (arith, rises, low, ok.bpg_low))
+
 -- the metadata of a group lies in it
 pub used_in_group : (g : Geometry) (n : ℕ) → IsGeometry g → used_blocks g n ≤ g.bpg
 used_in_group g zero ok = omega (arith, ok.room, ok.bpg_low, ok.ipg_high)

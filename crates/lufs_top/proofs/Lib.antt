@@ -12,8 +12,21 @@ pub mod Groups
 pub mod NewBlocks
 pub mod GroupLoop
 pub mod VolumeCalls
+pub mod BlockSectors
+pub mod RootBlock
+pub mod MadeBlocks
 pub mod MadeImage
 pub mod NewLog
+pub mod NewRecovered
+pub mod FirstBits
+pub mod Runs
+pub mod NewRecords
+pub mod NewReading
+pub mod NewClaims
+pub mod NewBits
+pub mod NewSound
 pub mod MkfsCrash
 pub mod MkfsMoments
 pub mod MkfsSafe
+mod HandedBack
+mod NewOpens

@@ -2,7 +2,7 @@
 use Rattle.std.proofs.Common.{◌≡◌, inl, inr, ℕ, ◌+◌, List, [], ◌∷◌, ◌++◌, length, take, Option, Some, None, Result, Ok, Err, refl, sym, ◌∙◌, ap, append_assoc, arith}
 use Rattle.std.specs.Prelude.{option_map, IsOk, IsErr}
 use Rattle.std.proofs.Math.Seq.{take-append-add}
-use Rattle.std.proofs.lemmas.Bool.{false≢true}
+use Rattle.std.proofs.lemmas.Bool.{cases_lt, false≢true}
 use Rattle.std.proofs.lemmas.List.{take-append-le, append-nil, take_all}
 use Rattle.volume_model.specs.declared.device_call.DeviceCall.{DeviceCall}
 use Rattle.volume_model.specs.declared.device_call.DeviceCall.TheVariants.{Write, Flush}
@@ -12,7 +12,6 @@ use Rattle.volume_model.specs.Outcome.{image_after}
 use Rattle.volume_model.proofs.Calls.{image_after-append}
 use Rattle.sector_disk.specs.Disk.{Writes, Lists, ListsFlush}
 use Rattle.lufs_top.specs.Mkfs.{HasMade, Makes}
-use Rattle.lufs_base.proofs.Places.{or_less}
 
 -- no others than the first of these calls were listed
 abbrev pub HasBegun : List DeviceCall → Option Record → Option Record → Type 0
@@ -43,7 +42,7 @@ made_then a b p q s l m t first second = record {
 
 -- calls of which some were begun, before others or behind others
 pub begun_more : (a b : List DeviceCall) (l m : Option Record) → HasBegun a l m → HasBegun (a ++ b) l m
-begun_more a b l m begun = elim (or_less begun.0 (length a)) [
+begun_more a b l m begun = elim (cases_lt begun.0 (length a)) [
   | inl less ↦ (begun.0, begun.1 ∙ ap (λ (calls : List DeviceCall). option_map (λ (r : Record). with_calls r calls) l) (sym (take-append-le begun.0 a b (omega (arith, less)))))
   | inr all ↦ (
     length a,

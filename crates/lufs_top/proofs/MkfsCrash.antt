@@ -1,34 +1,31 @@
 -- What a crash may leave of the calls of mkfs.
-use Rattle.std.proofs.Common.{◌≡◌, ◌≢◌, ℕ, zero, suc, ◌+◌, ◌-◌, ◌*◌, ◌/◌, ◌%◌, ◌<◌, ◌≤◌, ◌⊎◌, inl, inr, List, [], ◌∷◌, ◌++◌, length, take, drop, map, replicate, Option, Some, None, refl, sym, ◌∙◌, ap, subst, arith, take_all}
+use Rattle.std.proofs.Common.{◌≡◌, ◌≢◌, ℕ, zero, suc, ◌+◌, ◌-◌, ◌*◌, ◌/◌, ◌%◌, ◌<◌, ◌≤◌, ◌⊎◌, inl, inr, List, [], ◌∷◌, ◌++◌, length, take, drop, map, replicate, Option, Some, None, refl, sym, ◌∙◌, ap, subst, arith, take_all, ◌^◌}
 use Rattle.std.specs.Prelude.{Contains, ◌==◌, ◌&&◌, nat_lt, nat_le}
 use Rattle.std.specs.Option.{unwrap_or}
 use Rattle.std.specs.List.{AllByRecursion, last_or, cons_option, range_with_len}
-use Rattle.std.proofs.lemmas.Bool.{cases_Bool, cond-false, eqb-true, eqb-false, and_left, lt-leb}
-use Rattle.std.proofs.lemmas.List.{length-replicate, take_at, drop_at, take-take, take-append-le, take-append-drop}
+use Rattle.std.proofs.lemmas.Bool.{cases_lt, cases_Bool, cond-false, eqb-true, eqb-false, and_left, lt-leb}
+use Rattle.std.proofs.lemmas.List.{take_at, drop_at, take-take, take-append-le, take-append-drop}
 use Rattle.std.proofs.lemmas.List.Elements.{filter_map-append}
 use Rattle.lufs_base.specs.Fields.{number_in}
 use Rattle.lufs_base.specs.Layout.{IsGeometry, group_start, blocks_of}
 use Rattle.lufs_base.specs.declared.geometry.Geometry.{Geometry}
-use Rattle.lufs_base.proofs.Places.{or_less}
 use Rattle.volume_model.specs.declared.device_call.DeviceCall.{DeviceCall}
 use Rattle.volume_model.specs.declared.device_call.DeviceCall.TheVariants.{Write, Flush}
 use Rattle.volume_model.specs.Image.{Image, sector, sectors_of, overwritten}
 use Rattle.volume_model.specs.Record.{Record, IsInside, IsOfSectors}
 use Rattle.volume_model.specs.Outcome.{image_after, flushed, pending, record_from, written_by, written_to, kept_at, Outcome, IsPartlyWritten}
 use Rattle.volume_model.specs.Superblock.{super_of, super_bytes, geometry_of}
-use Rattle.volume_model.specs.LogHeader.{header_bytes}
-use Rattle.volume_model.specs.MkfsImage.{made_header, IsMkfsImage}
-use Rattle.volume_model.proofs.Sectors.{same_sectors, length-overwritten, sector_before, sector_within, sector_behind}
+use Rattle.volume_model.specs.MkfsImage.{IsMkfsImage}
+use Rattle.volume_model.proofs.Sectors.{same_sectors, length-overwritten, sector_within}
 use Rattle.volume_model.proofs.Calls.{image_after-append, flushed-pending, pending_renewed}
 use Rattle.volume_model.proofs.Outcomes.{AllInside, inside_front, inside_left, inside_both, length-image_after, sector_after}
 use Rattle.volume_model.proofs.CrashLaws.{same_calls, one_outcome, after_write, after_flush, begins_anew}
-use Rattle.volume_model.proofs.ReplayLaws.{nothing_replayed}
-use Rattle.ufs_super.proofs.SuperblockBytes.{super_reads}
 use Rattle.lufs_top.specs.Mkfs.{log_bytes, first_metadata, metadata_of, sealing, clearing, group_call, group_calls, filling, mkfs_calls}
 use Rattle.lufs_top.specs.MkfsCrash.{IsMkfsOutcome, unchanged, no_volume, whole}
 use Rattle.lufs_top.proofs.Groups.{length-metadata, used_in_group, groups_rise}
-use Rattle.lufs_top.proofs.MadeImage.{made_of_image}
-use Rattle.lufs_top.proofs.NewLog.{new_log, new_idents}
+use Rattle.lufs_top.proofs.MadeImage.{length-log, room_before_groups, length-super, other_sectors, made_of_image}
+use Rattle.lufs_top.proofs.NewOpens.{new_opens}
+use Rattle.lufs_top.proofs.NewRecovered.{new_geometry, new_recovered}
 
 none_left : {X : Type 0} (xs ys : List X) → xs ++ ys ≡ [] → xs ≡ []
 none_left [] ys none = refl
@@ -74,13 +71,7 @@ one_sector old image bytes size fits partly = elim (partly.each 16) [
     inside = omega (arith, size, fits)
 
     elsewhere : (k : ℕ) → k ≢ 16 → sector (overwritten old 16 bytes) k ≡ sector old k
-    elsewhere k other = elim (or_less k 16) [
-      | inl front ↦ sector_before old 16 bytes k inside front
-      | inr from ↦ elim (or_less 16 k) [
-        | inl behind ↦ sector_behind old 16 bytes k inside (omega (arith, size, behind))
-        | inr least ↦ let same : k ≡ 16 = omega (arith, from, least) in absurd (other same)
-      ]
-    ]
+    elsewhere k other = other_sectors old bytes k size fits other
 
     same_as : (target : Image) → length image ≡ length target → sector image 16 ≡ sector target 16 → ((k : ℕ) → k ≢ 16 → sector target k ≡ sector old k) → image ≡ target
     same_as target long there each = same_sectors image target long (λ k. elim (cases_Bool (k == 16)) [
@@ -139,7 +130,7 @@ written_behind first bytes behind =
     (and_left (nat_le first 16) (nat_lt 16 (first + sectors_of bytes)) (lt-leb first 16 behind))
 
 -- The calls by parts: those that clear sector 16, those that fill the log and the groups, and those that seal.
-module _ (g : Geometry) (moment : ℕ) (ok : IsGeometry g) (before : Image) (in_sectors : length before % 512 ≡ 0) (room : 4096 * blocks_of g ≤ length before) where
+module _ (g : Geometry) (moment : ℕ) (ok : IsGeometry g) (before : Image) (in_sectors : length before % 512 ≡ 0) (room : 4096 * blocks_of g ≤ length before) (fits : moment < 2 ^ 64) where
   abbrev bytes : ℕ
   bytes = length before
 
@@ -154,18 +145,7 @@ module _ (g : Geometry) (moment : ℕ) (ok : IsGeometry g) (before : Image) (in_
   filled = image_after cleared (filling g moment)
 
   large : 4096 * (3 + g.log / 8) ≤ bytes
-  large = omega (arith, room, at_least_0 (g.groups * g.bpg))
-    where
-      at_least_0 : (n : ℕ) → 0 ≤ n
-      at_least_0 n = omega arith
-
-  length-log : length (log_bytes g) ≡ 512 * g.log
-  unfolding header_bytes
-  length-log = omega (arith, ok.log_low, length-replicate {A = ℕ} (512 * (g.log - 1)) 0)
-
-  length-super : length (super_bytes g) ≡ 512
-  unfolding super_bytes
-  length-super = refl
+  large = room_before_groups g bytes room
 
   group_inside : (i : ℕ) → i < g.groups → IsInside bytes (group_call g (first_metadata g moment) i)
   group_inside i within =
@@ -177,12 +157,12 @@ module _ (g : Geometry) (moment : ℕ) (ok : IsGeometry g) (before : Image) (in_
 
   filling_inside : AllInside bytes (filling g moment)
   filling_inside = (
-    (omega (arith, length-log), omega (arith, length-log, large, ok.log_step)),
+    (omega (arith, length-log g ok), omega (arith, length-log g ok, large, ok.log_step)),
     inside_both bytes (group_calls g (first_metadata g moment) g.groups) (Flush ∷ []) groups_inside (tt, tt),
   )
 
   rest_inside : AllInside bytes rest
-  rest_inside = inside_both bytes (filling g moment) (sealing (super_bytes g)) filling_inside ((omega (arith, length-super), omega (arith, length-super, large)), (tt, tt))
+  rest_inside = inside_both bytes (filling g moment) (sealing (super_bytes g)) filling_inside ((omega (arith, length-super g), omega (arith, length-super g, large)), (tt, tt))
 
   all_inside : AllInside bytes (mkfs_calls g moment)
   all_inside = ((refl, omega (arith, large)), (tt, rest_inside))
@@ -218,9 +198,7 @@ module _ (g : Geometry) (moment : ℕ) (ok : IsGeometry g) (before : Image) (in_
 
   new_volume_is_whole : (image : Image) → IsMkfsImage g moment before image → IsMkfsOutcome g moment before image
   new_volume_is_whole image is =
-      let fits : 8 * blocks_of g ≤ sectors_of image = omega (arith, room, is.size) in
-      let names : geometry_of image ≡ Some g = ap (λ (s : List ℕ). super_of s (sectors_of image)) is.superblock ∙ super_reads g (sectors_of image) ok fits in
-      whole image names (nothing_replayed g image made_header (new_log g moment ok before image is)) is (new_idents g moment ok before image is)
+      whole image (new_geometry g moment ok before image is room) (new_recovered g moment ok before image is) is (new_opens g moment ok fits before image is room)
 
   -- a crash before the clearing is kept
   while_clearing : (n : ℕ) (image : Image) → Outcome (record { opening = before; calls = clearing }) n image → IsMkfsOutcome g moment before image
@@ -245,7 +223,7 @@ module _ (g : Geometry) (moment : ℕ) (ok : IsGeometry g) (before : Image) (in_
   -- a crash behind that
   while_sealing : (j : ℕ) (image : Image) → Outcome (record { opening = filled; calls = sealing (super_bytes g) }) j image → IsMkfsOutcome g moment before image
   while_sealing j image h =
-      elim (sealing_leaves filled (super_bytes g) j image length-super (omega (arith, in_sectors, length-filled)) (omega (arith, large, length-filled)) h) [
+      elim (sealing_leaves filled (super_bytes g) j image (length-super g) (omega (arith, in_sectors, length-filled)) (omega (arith, large, length-filled)) h) [
         | inl same ↦ cleared_gives_none image (ap (λ (i : Image). sector i 16) same ∙ cleared_still)
         | inr put ↦ subst (IsMkfsOutcome g moment before) (sym (put ∙ sealed_is)) (new_volume_is_whole (image_after before (mkfs_calls g moment)) (made_of_image g moment ok before room))
       ]
@@ -262,7 +240,7 @@ module _ (g : Geometry) (moment : ℕ) (ok : IsGeometry g) (before : Image) (in_
       (ap (take j) (drop_at (filling g moment) (sealing (super_bytes g)) n refl)) anew)
 
   behind_clearing : (m : ℕ) (image : Image) → Outcome (record { opening = cleared; calls = rest }) m image → IsMkfsOutcome g moment before image
-  behind_clearing m image h = elim (or_less m (length (filling g moment))) [
+  behind_clearing m image h = elim (cases_lt m (length (filling g moment))) [
     | inl less ↦ while_filling m image (omega (arith, less)) h
     | inr more ↦
         let split : length (filling g moment) + (m - length (filling g moment)) ≡ m = omega (arith, more) in
@@ -272,7 +250,7 @@ module _ (g : Geometry) (moment : ℕ) (ok : IsGeometry g) (before : Image) (in_
   outcome_of_all : (n : ℕ) (image : Image) → Outcome (record { opening = before; calls = mkfs_calls g moment }) n image → IsMkfsOutcome g moment before image
   outcome_of_all n image h =
       let r : Record = record { opening = before; calls = mkfs_calls g moment } in
-      elim (or_less n 2) [
+      elim (cases_lt n 2) [
         | inl few ↦ while_clearing n image (same_calls r (record { opening = before; calls = clearing }) n n image refl (take-append-le n clearing rest (omega (arith, few))) h)
         | inr more ↦
             let split : 2 + (n - 2) ≡ n = omega (arith, more) in
@@ -280,8 +258,8 @@ module _ (g : Geometry) (moment : ℕ) (ok : IsGeometry g) (before : Image) (in_
             ((begins_anew r 2 (n - 2) image record { opening = in_sectors; calls = all_inside } refl).0 (subst (λ (m : ℕ). Outcome r m image) (sym split) h))
       ]
 
-pub outcome_of_some : (g : Geometry) (moment : ℕ) (before : Image) (k n : ℕ) (image : Image) → IsGeometry g → length before % 512 ≡ 0 → 4096 * blocks_of g ≤ length before → n ≤ k
+pub outcome_of_some : (g : Geometry) (moment : ℕ) (before : Image) (k n : ℕ) (image : Image) → IsGeometry g → moment < 2 ^ 64 → length before % 512 ≡ 0 → 4096 * blocks_of g ≤ length before → n ≤ k
     → Outcome (record { opening = before; calls = take k (mkfs_calls g moment) }) n image → IsMkfsOutcome g moment before image
-outcome_of_some g moment before k n image ok in_sectors room within h =
-    outcome_of_all g moment ok before in_sectors room n image
+outcome_of_some g moment before k n image ok fits in_sectors room within h =
+    outcome_of_all g moment ok before in_sectors room fits n image
     (same_calls (record { opening = before; calls = take k (mkfs_calls g moment) }) (record { opening = before; calls = mkfs_calls g moment }) n n image refl (take-take n k (mkfs_calls g moment) within) h)

@@ -1,5 +1,5 @@
 -- What mkfs leaves, and what a crash at any moment of it may leave, by what its disk tells.
-use Rattle.std.proofs.Common.{◌≡◌, ◌≤◌, ℕ, ◌-◌, ◌*◌, ◌%◌, List, [], ◌∷◌, ◌++◌, length, take, drop, replicate, Option, Some, None, Result, refl, sym, ◌∙◌, ap, subst, arith, append_assoc, take_all}
+use Rattle.std.proofs.Common.{◌≡◌, ◌≤◌, ℕ, ◌-◌, ◌*◌, ◌%◌, List, [], ◌∷◌, ◌++◌, length, take, drop, replicate, Option, Some, None, Result, refl, sym, ◌∙◌, ap, subst, arith, append_assoc, take_all, ◌^◌, ◌<◌}
 use Rattle.std.specs.Prelude.{IfSome, IsSome, option_map}
 use Rattle.std.proofs.Math.Seq.{drop-append_seam}
 use Rattle.std.proofs.lemmas.List.{drop_all, length-append, length-take}
@@ -22,8 +22,11 @@ use Rattle.lufs_top.proofs.MadeImage.{made_of_image}
 use Rattle.lufs_top.proofs.MkfsCrash.{outcome_of_some}
 
 -- what the record of a command's own calls is
-abbrev Told : Option Image → Option Record → ℕ → Type 0
+abbrev pub Told : Option Image → Option Record → ℕ → Type 0
 Told present listed calls = IfSome listed (λ r. (calls ≡ length r.calls) × IsSome present)
+
+own_calls : (r : Record) (calls : ℕ) (made : List DeviceCall) → calls ≡ length r.calls → drop calls (r.calls ++ made) ≡ made
+own_calls r calls made count = ap (λ (k : ℕ). drop k (r.calls ++ made)) count ∙ drop-append_seam r.calls made
 
 pub room_told : (g : Geometry) (present : Option Image) (sectors : ℕ) → IfSome present (λ image. sectors_of image ≡ sectors) → 8 * blocks_of g ≤ sectors
     → IfSome present (λ image. 4096 * blocks_of g ≤ length image)
@@ -43,21 +46,20 @@ untouched_moments g moment (Some before) (Some r) calls told = λ whole n low hi
     unchanged ((one_outcome start 0 image record { opening = whole; calls = tt } refl).0 (same_calls (record { opening = before; calls = drop calls r.calls }) start n 0 image refl same h))
 
 -- some of the calls were listed
-pub begun_moments : (g : Geometry) (moment : ℕ) (present present_now : Option Image) (listed now : Option Record) (calls calls_now : ℕ) → IsGeometry g
+pub begun_moments : (g : Geometry) (moment : ℕ) (present present_now : Option Image) (listed now : Option Record) (calls calls_now : ℕ) → IsGeometry g → moment < 2 ^ 64
     → IfSome present (λ image. 4096 * blocks_of g ≤ length image) → Told present listed calls → Told present_now now calls_now → HasBegun (mkfs_calls g moment) listed now
     → IfSome present (λ before. length before % 512 ≡ 0 → AtEachMoment (record_since present calls now) 0 (calls_now - calls) (λ _ image. IsMkfsOutcome g moment before image))
-begun_moments g moment None present_now listed now calls calls_now ok room told told_now begun = tt
-begun_moments g moment (Some before) present_now None now calls calls_now ok room told told_now begun = λ whole.
+begun_moments g moment None present_now listed now calls calls_now ok fits room told told_now begun = tt
+begun_moments g moment (Some before) present_now None now calls calls_now ok fits room told told_now begun = λ whole.
     subst (λ (l : Option Record). AtEachMoment (record_since (Some before) calls l) 0 (calls_now - calls) (λ _ image. IsMkfsOutcome g moment before image)) (sym begun.1) tt
-begun_moments g moment (Some before) present_now (Some r) now calls calls_now ok room told told_now begun = λ whole.
+begun_moments g moment (Some before) present_now (Some r) now calls calls_now ok fits room told told_now begun = λ whole.
     let made = take begun.0 (mkfs_calls g moment) in
     let count = subst (λ (l : Option Record). Told present_now l calls_now) begun.1 told_now in
-    let own : drop calls (r.calls ++ made) ≡ made = ap (λ (k : ℕ). drop k (r.calls ++ made)) told.0 ∙ drop-append_seam r.calls made in
     subst (λ (l : Option Record). AtEachMoment (record_since (Some before) calls l) 0 (calls_now - calls) (λ _ image. IsMkfsOutcome g moment before image)) (sym begun.1)
     (λ n low high image h.
     let few : n ≤ begun.0 = omega (arith, high, count.0, told.0, length-append r.calls made, length-take begun.0 (mkfs_calls g moment)) in
-    outcome_of_some g moment before begun.0 n image ok whole room few
-    (same_calls (record { opening = before; calls = drop calls (r.calls ++ made) }) (record { opening = before; calls = made }) n n image refl (ap (take n) own) h))
+    outcome_of_some g moment before begun.0 n image ok fits whole room few
+    (same_calls (record { opening = before; calls = drop calls (r.calls ++ made) }) (record { opening = before; calls = made }) n n image refl (ap (take n) (own_calls r calls made told.0)) h))
 
 -- all calls were made
 pub made_told : (g : Geometry) (moment : ℕ) (present now : Option Image) (listed listed_now : Option Record) → IsGeometry g → IfSome present (λ image. 4096 * blocks_of g ≤ length image)
@@ -80,8 +82,7 @@ pub settled_told : (g : Geometry) (moment : ℕ) (present now : Option Image) (l
 settled_told g moment None now listed listed_now calls told made = tt
 settled_told g moment (Some before) now None listed_now calls told made = subst (λ (l : Option Record). IfSome (record_since (Some before) calls l) IsSettled) (sym made.list) tt
 settled_told g moment (Some before) now (Some r) listed_now calls told made =
-    let own : drop calls (r.calls ++ mkfs_calls g moment) ≡ mkfs_calls g moment = ap (λ (k : ℕ). drop k (r.calls ++ mkfs_calls g moment)) told.0 ∙ drop-append_seam r.calls (mkfs_calls g moment) in
-    subst (λ (l : Option Record). IfSome (record_since (Some before) calls l) IsSettled) (sym made.list) (ap pending own ∙ all_kept g moment)
+    subst (λ (l : Option Record). IfSome (record_since (Some before) calls l) IsSettled) (sym made.list) (ap pending (own_calls r calls (mkfs_calls g moment) told.0) ∙ all_kept g moment)
 
 -- the calls of the parts that were built are those of mkfs
 pub made_of_parts : {T E : Type 0} (result : Result T E) (g : Geometry) (moment : ℕ) (log first : List ℕ) (p q : Option Image) (l m : Option Record) → log ≡ log_bytes g → first ≡ first_metadata g moment

@@ -26,8 +26,8 @@ of_zeros P zeros (Some b) (Some a) told are made = subst (λ (i : Image). P i a)
 not_less : (a b c : ℕ) → a ≡ b → b ≡ c → a < c → ⊥
 not_less a b c one two less = omega (arith, one, two, less)
 
-module _ {D : Type 0} (tells : Bool) (sectors : D → ℕ) (present : D → Option Image) (listed : D → Option Record) (calls : D → ℕ) (told : Option ℕ) (g : Geometry) (moment n : ℕ) (before after : D) (kept : sectors after ≡ sectors before) where
-  holds : (old : Option D) → n ≡ blocks_of g → IfSome old (λ d. before ≡ d) → (old ≡ None → IsZeroDisk (sectors before) (present before) (listed before) (8 * n))
+module _ {D : Type 0} (tells : Bool) (sectors : D → ℕ) (present : D → Option Image) (listed : D → Option Record) (calls : D → ℕ) (told : Option ℕ) (g : Geometry) (moment n faults failed_at : ℕ) (before after : D) (kept : sectors after ≡ sectors before) where
+  holds : (old : Option D) → n ≡ blocks_of g → IfSome old (λ d. before ≡ d) → (old ≡ None → IsZeroDisk (sectors before) (present before) (listed before) (calls before) faults failed_at (8 * n))
       → IsNewVolume sectors present g moment before after → HoldsNew sectors present g moment old after
   holds None size same zero new = (
     kept ∙ (zero refl).size ∙ ap (λ (k : ℕ). 8 * k) size,
@@ -39,7 +39,7 @@ module _ {D : Type 0} (tells : Bool) (sectors : D → ℕ) (present : D → Opti
       (told_too (IsMkfsImage g moment) (present before) (present after) new.told new.made)
 
   -- a disk that was made has room
-  too_few : (old : Option D) (number : ℕ) → n ≡ blocks_of g → IfSome old (λ d. before ≡ d) → (old ≡ None → IsZeroDisk (sectors before) (present before) (listed before) (8 * n))
+  too_few : (old : Option D) (number : ℕ) → n ≡ blocks_of g → IfSome old (λ d. before ≡ d) → (old ≡ None → IsZeroDisk (sectors before) (present before) (listed before) (calls before) faults failed_at (8 * n))
       → number ≡ sectors before → number < 8 * blocks_of g → IsSomeAnd old (λ d. sectors d ≡ number)
   too_few None number size same zero is few = absurd (not_less number (sectors before) (8 * blocks_of g) is ((zero refl).size ∙ ap (λ (k : ℕ). 8 * k) size) few)
   too_few (Some d) number size same zero is few = subst (λ (e : D). sectors e ≡ number) same (sym is)
@@ -50,7 +50,7 @@ module _ {D : Type 0} (tells : Bool) (sectors : D → ℕ) (present : D → Opti
   back (Some d) new there same known unwritten = (after, there known, subst (λ (e : D). IsUnwritten present listed calls e after) same unwritten)
 
   pub held : (old new : Option D) (ending : Ending) → n ≡ blocks_of g → (IsTrue tells → new ≡ Some after) → IfSome told (λ m. moment ≡ m) → IfSome old (λ d. before ≡ d)
-      → (IsTrue tells → old ≡ None → IsZeroDisk (sectors before) (present before) (listed before) (8 * n)) → IfSome old (λ d. IsTrue tells)
+      → (IsTrue tells → old ≡ None → IsZeroDisk (sectors before) (present before) (listed before) (calls before) faults failed_at (8 * n)) → IfSome old (λ d. IsTrue tells)
       → MakesVolume sectors present listed calls g moment before after ending → IsMkfsOf tells sectors present listed calls told g old new ending
   held old new (Done text) size there now same zero known is = (
     is.0,
@@ -61,6 +61,7 @@ module _ {D : Type 0} (tells : Bool) (sectors : D → ℕ) (present : D → Opti
       back = there tells;
       room = is.1.room;
       holds = holds old size same (zero tells) is.1;
+      opens = is.1.opens;
     },
   )
   held old new Usage size there now same zero known is = is

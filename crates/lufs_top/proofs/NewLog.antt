@@ -1,29 +1,25 @@
 -- The log of a new volume: its header, and a ring of zeros.
-use Rattle.std.proofs.Common.{◌≡◌, ℕ, zero, suc, ◌+◌, ◌-◌, ◌*◌, ◌/◌, ◌%◌, ◌<◌, ◌≤◌, inl, inr, false, List, [], ◌∷◌, ◌++◌, length, take, drop, map, replicate, Option, Some, None, refl, sym, ◌∙◌, ap, subst, arith}
-use Rattle.std.specs.Prelude.{IfSome, ◌==◌, nat_lt, if◌then◌else◌}
+use Rattle.std.proofs.Common.{◌≡◌, ℕ, zero, suc, ◌+◌, ◌*◌, ◌/◌, ◌%◌, ◌<◌, ◌≤◌, inl, inr, false, List, [], ◌∷◌, ◌++◌, length, take, drop, map, replicate, Some, refl, sym, ◌∙◌, ap, arith}
+use Rattle.std.specs.Prelude.{◌==◌, if◌then◌else◌}
 use Rattle.std.specs.List.{range_with_len}
 use Rattle.std.proofs.Math.Seq.{drop-append-add}
-use Rattle.std.proofs.lemmas.Bool.{cond-true, cond-false, ne_eqb, lt-ltb}
-use Rattle.std.proofs.lemmas.List.{take-take, drop-take, drop-drop, drop-replicate, take-replicate}
+use Rattle.std.proofs.lemmas.Bool.{cases_lt, cond-false, ne_eqb}
 use Rattle.std.proofs.lemmas.List.Sums.{take_while-cons}
 use Rattle.lufs_base.specs.Fields.{number_in, u32_at}
-use Rattle.lufs_base.specs.Layout.{IsGeometry, group_start, blocks_of, ring_of, region_of}
+use Rattle.lufs_base.specs.Layout.{IsGeometry, group_start, ring_of}
 use Rattle.lufs_base.specs.declared.geometry.Geometry.{Geometry}
 use Rattle.lufs_base.specs.declared.geometry.Region.TheVariants.{Log}
-use Rattle.lufs_base.proofs.Places.{or_less, only_region}
 use Rattle.volume_model.specs.Image.{Image, sector, block}
 use Rattle.volume_model.specs.LogHeader.{header_of, header_bytes}
 use Rattle.volume_model.specs.LogRun.{front_of, run_behind, run_of}
 use Rattle.volume_model.specs.Log.{Behind, Listed, belongs_to, row_of, payload_of, transactions_at, transactions_from, ring_from, log_behind, log_with, log_of}
-use Rattle.volume_model.specs.MkfsImage.{made_header, block_with, made_in, made_block, IsMkfsImage}
+use Rattle.volume_model.specs.MkfsImage.{made_header, block_with, IsMkfsImage}
 use Rattle.log_format.proofs.HeaderBytes.{header_reads}
-use Rattle.lufs_top.specs.MkfsCrash.{HasNoLaterIdent}
+use Rattle.volume_model.specs.Opens.{HasNoLaterIdent}
+use Rattle.lufs_top.proofs.BlockSectors.{sector_in_block, sector_of_zeros}
+use Rattle.lufs_top.proofs.MadeBlocks.{made_there}
 
 -- sectors of the blocks of the log
-sector_of_zeros : (j n : ℕ) → j < n → sector (replicate (512 * n) 0) j ≡ replicate 512 0
-sector_of_zeros j n below =
-    ap (take 512) (drop-replicate (512 * j) (512 * n) (let z : ℕ = 0 in z)) ∙ take-replicate 512 (512 * n - 512 * j) (let z : ℕ = 0 in z) (omega (arith, below))
-
 header_in_block : sector (block_with 0 (header_bytes made_header)) 0 ≡ header_bytes made_header
 unfolding header_bytes
 header_in_block = refl
@@ -36,15 +32,7 @@ behind_header j below =
     ∙ ap (take 512) (drop-append-add (header_bytes made_header) (replicate 3584 0) (512 * j)) ∙ sector_of_zeros j 7 below
 
 sector_of_block : (image bytes : Image) (b j : ℕ) → block image b ≡ bytes → j < 8 → sector image (8 * b + j) ≡ sector bytes j
-sector_of_block image bytes b j is below =
-    let split : 512 * j + (4096 - 512 * j) ≡ 4096 = omega arith in
-    let place : 512 * (8 * b) + 512 * j ≡ 512 * (8 * b + j) = omega arith in
-    ap (λ (n : ℕ). take 512 (drop n image)) (sym place)
-    ∙ ap (take 512) (sym (drop-drop (512 * j) (512 * (8 * b)) image))
-    ∙ sym (take-take 512 (4096 - 512 * j) (drop (512 * j) (drop (512 * (8 * b)) image)) (omega (arith, below)))
-    ∙ ap (take 512) (sym (drop-take (512 * j) (4096 - 512 * j) (drop (512 * (8 * b)) image)))
-    ∙ ap (λ (n : ℕ). take 512 (drop (512 * j) (take n (drop (512 * (8 * b)) image)))) split
-    ∙ ap (λ (c : Image). sector c j) is
+sector_of_block image bytes b j is below = sym (sector_in_block image b j below) ∙ ap (λ (c : Image). sector c j) is
 
 no_row : (f : ℕ → List ℕ) (n : ℕ) → belongs_to 1 1 (f 0) ≡ false → row_of 1 1 (map f (range_with_len 0 n)) ≡ []
 no_row f zero other = refl
@@ -75,25 +63,19 @@ empty_log g header at_place some reads zeros =
 -- the log of an image that mkfs made
 module _ (g : Geometry) (moment : ℕ) (ok : IsGeometry g) (old made : Image) (is : IsMkfsImage g moment old made) where
   log_block : (b : ℕ) → 3 ≤ b → b < group_start g 0 → block made b ≡ (if b == 3 then block_with 0 (header_bytes made_header) else replicate 4096 0)
-  unfolding made_block
-  log_block b low high =
-      let inside : b < blocks_of g = omega (arith, high) in
-      let there : made_block g moment b ≡ Some (if b == 3 then block_with 0 (header_bytes made_header) else replicate 4096 0) =
-      cond-true (nat_lt b (blocks_of g)) (made_in g moment b (region_of g b)) None (lt-ltb b (blocks_of g) inside)
-      ∙ ap (made_in g moment b) (sym (only_region g b Log ok (low, high))) in
-      subst (λ (o : Option (List ℕ)). IfSome o (λ bytes. block made b ≡ bytes)) there (is.made b)
+  log_block b low high = made_there g moment ok old made is b Log (low, high) (omega (arith, high))
 
-  few : 0 < g.log / 8
-  few = omega (arith, ok.log_low)
+  first_block : block made 3 ≡ block_with 0 (header_bytes made_header)
+  first_block = let few : 0 < g.log / 8 = omega (arith, ok.log_low) in log_block 3 (omega arith) (omega (arith, few))
 
   header_there : sector made 24 ≡ header_bytes made_header
-  header_there = sector_of_block made (block_with 0 (header_bytes made_header)) 3 0 (log_block 3 (omega arith) (omega (arith, few))) (omega arith) ∙ header_in_block
+  header_there = sector_of_block made (block_with 0 (header_bytes made_header)) 3 0 first_block (omega arith) ∙ header_in_block
 
   ring_there : (place : ℕ) → place < ring_of g → sector made (25 + place) ≡ replicate 512 0
-  ring_there place below = elim (or_less place 7) [
+  ring_there place below = elim (cases_lt place 7) [
     | inl near ↦
         let at : 8 * 3 + (1 + place) ≡ 25 + place = omega arith in
-        ap (sector made) (sym at) ∙ sector_of_block made (block_with 0 (header_bytes made_header)) 3 (1 + place) (log_block 3 (omega arith) (omega (arith, few))) (omega (arith, near))
+        ap (sector made) (sym at) ∙ sector_of_block made (block_with 0 (header_bytes made_header)) 3 (1 + place) first_block (omega (arith, near))
         ∙ behind_header place near
     | inr far ↦
         let b = (25 + place) / 8 in

@@ -5,3 +5,4 @@ pub mod Run
 pub mod Mkfs
 pub mod MkfsCrash
 pub mod MkfsRun
+pub mod NewVolume

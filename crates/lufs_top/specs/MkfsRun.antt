@@ -5,6 +5,7 @@ use Rattle.lufs_base.specs.declared.geometry.Geometry.{Geometry}
 use Rattle.volume_model.specs.Image.{Image}
 use Rattle.volume_model.specs.Record.{Record}
 use Rattle.volume_model.specs.MkfsImage.{IsMkfsImage}
+use Rattle.volume_model.specs.Opens.{Opens}
 use Rattle.volume_model.specs.MkfsText.{mkfs_text}
 use Rattle.lufs_top.specs.declared.ending.Ending.{Ending}
 use Rattle.lufs_top.specs.declared.ending.Ending.TheVariants.{Done, Usage, Missing, DiskFault, NotVolume, Geometry as BadGeometry, BadHeader, BadRun, NoMemory}
@@ -12,11 +13,13 @@ use Rattle.lufs_top.specs.declared.ending.BadNumber.{BadNumber}
 use Rattle.lufs_top.specs.declared.ending.GeometryWord.TheVariants.{Sectors}
 use Rattle.lufs_top.specs.Run.{IsUnwritten, IsBack, IsMade}
 
--- the disk has room for the volume, and what it tells of its content is what the volume makes of what it told before
+-- the disk has room for the volume, and what it tells of its content is what the volume makes of what it told before,
+-- and opens
 pub record IsNewVolume {D : Type 0} (sectors : D → ℕ) (present : D → Option Image) (g : Geometry) (moment : ℕ) (old new : D) : Type 0 where
   pub room : 8 * blocks_of g ≤ sectors new
   pub told : is_some (present new) ≡ is_some (present old)
   pub made : IfSome (present old) (λ before. IfSome (present new) (IsMkfsImage g moment before))
+  pub opens : IfSome (present new) Opens
 
 -- the disk had so many sectors, which are too few, and it is unwritten
 pub record IsTooSmall {D : Type 0} (sectors : D → ℕ) (present : D → Option Image) (listed : D → Option Record) (calls : D → ℕ) (g : Geometry) (old new : D) (bad : BadNumber) : Type 0 where

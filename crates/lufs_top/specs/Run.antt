@@ -10,8 +10,10 @@ use Rattle.volume_model.specs.Superblock.{geometry_of}
 use Rattle.volume_model.specs.Log.{NoHeader, Behind, BadRun as LogBadRun, log_of}
 use Rattle.volume_model.specs.ScanText.{scan_text_of}
 use Rattle.volume_model.specs.MkfsImage.{IsMkfsImage}
+use Rattle.volume_model.specs.Opens.{Opens}
 use Rattle.volume_model.specs.MkfsText.{mkfs_text}
 use Rattle.volume_model.specs.Record.{Record}
+use Rattle.sector_disk.specs.Disk.{StopsAtFailure}
 use Rattle.host_io.specs.declared.host.Ask.{Ask}
 use Rattle.host_io.specs.declared.host.AskAnswer.{AskAnswer}
 use Rattle.host_io.specs.declared.host.AskAnswer.TheVariants as answers
@@ -54,6 +56,17 @@ FaultRose faults (Some before) now = Rose (faults before) (faults now)
 
 abbrev pub MadeDiskRose : {D : Type 0} → (D → ℕ) → Option D → Option D → Type 0
 MadeDiskRose {D = D} faults old new = (e : D) × (new ≡ Some e) × FaultRose faults old e
+
+-- what the disk that was there had counted, and 0 where there was none
+abbrev pub count_before : {D : Type 0} → (D → ℕ) → Option D → ℕ
+count_before count None = 0
+count_before count (Some before) = count before
+
+-- Since the disk that is there now was as it was before, or since it was made where there was none, no call of it
+-- failed, or one did and no write and no flush was counted behind it.
+abbrev pub StopsAtFailureOf : {D : Type 0} → (calls faults failed_at : D → ℕ) → Option D → Option D → Type 0
+StopsAtFailureOf calls faults failed_at old new =
+    IfSome new (λ now. StopsAtFailure (calls now) (count_before faults old) (faults now) (count_before failed_at old) (failed_at now))
 
 -- what stands under the volume's name, if the words name one
 abbrev pub at_volume : {D : Type 0} → (List ℕ → Option D) → Option (List ℕ) → Option D
@@ -114,6 +127,7 @@ pub record IsMade {D : Type 0} (sectors : D → ℕ) (present : D → Option Ima
   pub back : new ≡ Some disk
   pub room : 8 * blocks_of g ≤ sectors disk
   pub holds : HoldsNew sectors present g moment old disk
+  pub opens : IfSome (present disk) Opens
 
 -- The number is the first that leaves its range, or that of the sectors of the disk that was there, which are too few.
 pub data IsRefused {D : Type 0} (tells : Bool) (sectors : D → ℕ) (numbers : VolumeNumbers) (disk : Option D) (bad : BadNumber) : Type 0 where

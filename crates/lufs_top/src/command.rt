@@ -6,7 +6,7 @@ ghost use Rattle.lufs_top.specs.declared.ending.BadNumber.{BadNumber};
 ghost use Rattle.lufs_top.specs.Ending.{status_of, IsEndingOf};
 ghost use Rattle.lufs_top.specs.MkfsCrash.{IsSafeMakingOf, IsKeptOf};
 ghost use Rattle.lufs_top.specs.Numbers.{first_out_of_range, geometry_from};
-ghost use Rattle.lufs_top.specs.Run.{told_image, at_volume, IsBack, IsHeld, IsMade, IsRefused, IsTrueEnding, DiskRose, MadeDiskRose, AsksDisk, AsksWanted, wanted_of};
+ghost use Rattle.lufs_top.specs.Run.{told_image, at_volume, IsBack, IsHeld, IsMade, IsRefused, IsTrueEnding, DiskRose, MadeDiskRose, StopsAtFailureOf, AsksDisk, AsksWanted, wanted_of};
 ghost use Rattle.lufs_top.specs.Words.{volume_of, scan_of, mkfs_of};
 
 use crate::ending::Ending;
@@ -24,6 +24,7 @@ fn scan_named<H: Host>(alloc: Global, host: &mut H, name: &str) -> Ending
     ensures missing { result ≡ Missing → Rose (H.absent host.old) (H.absent host.new) }
     ensures fault { result ≡ DiskFault → IsTrue (H.tells host.old)
         → Rose (H.faults host.old) (H.faults host.new) ⊎ DiskRose H.D.faults (H.disk_at host.old name.now) (H.disk_at host.new name.now) }
+    ensures stops { StopsAtFailureOf H.D.calls H.D.faults H.D.failed_at (H.disk_at host.old name.now) (H.disk_at host.new name.now) }
     ensures back { IsBack H.D.present H.D.listed H.D.calls (H.disk_at host.old name.now) (H.disk_at host.new name.now) }
     ensures held { IsHeld H.D.sectors (H.disk_at host.old name.now) (H.disk_at host.new name.now) }
     ensures other_disks { (q : List ℕ) → q ≢ name.now → H.disk_at host.new q ≡ H.disk_at host.old q }
@@ -54,7 +55,8 @@ pub(crate) fn run_command<H: Host>(alloc: Global, host: &mut H, words: &[String]
         (at_volume (H.disk_at host.old) (volume_of words.now)) (at_volume (H.disk_at host.new) (volume_of words.now))) }
     ensures crash { IfSome (mkfs_of words.now) (λ numbers. first_out_of_range numbers ≡ None → IsSafeMakingOf H.D.present H.D.listed H.D.calls (H.moment host.old) (geometry_from numbers)
         (at_volume (H.disk_at host.old) (volume_of words.now)) (at_volume (H.disk_at host.new) (volume_of words.now))) }
-    ensures settled { status_of result ≡ 0 → IsSome (mkfs_of words.now) → IsKeptOf H.D.present H.D.listed H.D.calls (at_volume (H.disk_at host.old) (volume_of words.now)) (at_volume (H.disk_at host.new) (volume_of words.now)) }
+    ensures settled { status_of result ≡ 0 → IfSome (mkfs_of words.now) (λ numbers. IsKeptOf H.D.present H.D.listed H.D.calls (geometry_from numbers)
+        (at_volume (H.disk_at host.old) (volume_of words.now)) (at_volume (H.disk_at host.new) (volume_of words.now))) }
     ensures geometry { status_of result ≡ 10 → IsSomeAnd (mkfs_of words.now) (λ numbers. (bad : BadNumber) × IsRefused (H.tells host.old) H.D.sectors numbers (at_volume (H.disk_at host.old) (volume_of words.now)) bad) }
     ensures out_of_range { IfSome (option_and_then first_out_of_range (mkfs_of words.now)) (λ _. (status_of result ≡ 10) × (H.disk_at host.new ≡ H.disk_at host.old)) }
     ensures missing { result ≡ Missing → Rose (H.absent host.old) (H.absent host.new) }
@@ -62,6 +64,7 @@ pub(crate) fn run_command<H: Host>(alloc: Global, host: &mut H, words: &[String]
         ⊎ DiskRose H.D.faults (at_volume (H.disk_at host.old) (volume_of words.now)) (at_volume (H.disk_at host.new) (volume_of words.now)) }
     ensures made_fault { result ≡ DiskFault → IsTrue (H.tells host.old) → IsSome (mkfs_of words.now) → Rose (H.faults host.old) (H.faults host.new)
         ⊎ MadeDiskRose H.D.faults (at_volume (H.disk_at host.old) (volume_of words.now)) (at_volume (H.disk_at host.new) (volume_of words.now)) }
+    ensures stops { StopsAtFailureOf H.D.calls H.D.faults H.D.failed_at (at_volume (H.disk_at host.old) (volume_of words.now)) (at_volume (H.disk_at host.new) (volume_of words.now)) }
     ensures unwritten { IsBack H.D.present H.D.listed H.D.calls (at_volume (H.disk_at host.old) (scan_of words.now)) (at_volume (H.disk_at host.new) (scan_of words.now)) }
     ensures refused { status_of result ≡ 10 → IsBack H.D.present H.D.listed H.D.calls (at_volume (H.disk_at host.old) (volume_of words.now)) (at_volume (H.disk_at host.new) (volume_of words.now)) }
     ensures held { IsHeld H.D.sectors (at_volume (H.disk_at host.old) (volume_of words.now)) (at_volume (H.disk_at host.new) (volume_of words.now)) }

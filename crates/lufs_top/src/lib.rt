@@ -5,6 +5,7 @@ mod command;
 mod ending;
 pub mod mkfs;
 mod mkfs_command;
+mod new_volume;
 mod numbers;
 mod report;
 #[cfg(test)]
@@ -14,5 +15,6 @@ mod top;
 mod volume;
 mod words;
 
+pub use new_volume::new_volumes;
 pub use report::NO_MEMORY;
 pub use top::run;

@@ -1,12 +1,14 @@
 //! Makes an empty volume on a disk (`docs/FORMAT.md`, "A new volume").
-ghost use Rattle.std.specs.Prelude.{◌≡◌, ◌≤◌, ◌<◌, ◌*◌, ◌+◌, ◌-◌, ◌%◌, ℕ, length, take, ◌⊎◌, Err, IfSome, OnOk, OnErr, is_some};
+ghost use Rattle.std.specs.Prelude.{◌≡◌, ◌≢◌, ◌≤◌, ◌<◌, ◌*◌, ◌+◌, ◌-◌, ◌%◌, ◌^◌, ℕ, length, take, ◌⊎◌, Err, IfSome, OnOk, OnErr, is_some};
 ghost use Rattle.lufs_base.specs.Causes.{HasCause, Rose};
 ghost use Rattle.lufs_base.specs.Layout.{IsGeometry, blocks_of};
 ghost use Rattle.lufs_base.specs.declared.geometry.Geometry.{Geometry};
 ghost use Rattle.volume_model.specs.Image.{Image};
 ghost use Rattle.volume_model.specs.MkfsImage.{IsMkfsImage, used_blocks};
+ghost use Rattle.volume_model.specs.Opens.{Opens};
 ghost use Rattle.volume_model.specs.Outcome.{Outcome, IsSettled};
 ghost use Rattle.volume_model.specs.Crash.{AtEachMoment, record_since};
+ghost use Rattle.sector_disk.specs.Disk.{CountsFailure, NoneFailed, FailedLast};
 ghost use Rattle.lufs_top.specs.Mkfs.{Makes, sealing, group_calls, other_metadata, IsRoom, IsUntouched, volume_calls, mkfs_calls};
 ghost use Rattle.lufs_top.specs.MkfsCrash.{IsMkfsOutcome, IsSafeMaking, IsKept};
 ghost use Rattle.lufs_top.specs.declared.mkfs.MkfsError.TheVariants.{Disk, Sectors};
@@ -63,6 +65,7 @@ fn put_superblock<D: Disk>(disk: &mut D, sector: &[u8; 512]) -> Result<(), DiskF
     ensures sectors { D.sectors disk.new ≡ D.sectors disk.old }
     ensures count { D.calls disk.old ≤ D.calls disk.new }
     ensures cause { HasCause (D.faults disk.old) (D.faults disk.new) result }
+    ensures failure { CountsFailure result (D.calls disk.new) (D.faults disk.old) (D.faults disk.new) (D.failed_at disk.old) (D.failed_at disk.new) }
 {
     disk.write(SUPERBLOCK, sector)?;
     disk.flush()
@@ -92,6 +95,7 @@ fn write_groups<D: Disk>(
     ensures sectors { D.sectors disk.new ≡ D.sectors disk.old }
     ensures count { D.calls disk.old ≤ D.calls disk.new }
     ensures cause { HasCause (D.faults disk.old) (D.faults disk.new) result }
+    ensures failure { CountsFailure result (D.calls disk.new) (D.faults disk.old) (D.faults disk.new) (D.failed_at disk.old) (D.failed_at disk.new) }
 {
     disk.write(8 * u64::from(g.group_block(0).0), first)?;
     for n in 1..g.groups {
@@ -118,6 +122,7 @@ fn write_volume<D: Disk>(
     ensures calls { Makes (volume_calls g.now log.now first.now) result (D.present disk.old) (D.present disk.new) (D.listed disk.old) (D.listed disk.new) }
     ensures sectors { D.sectors disk.new ≡ D.sectors disk.old }
     ensures cause { HasCause (D.faults disk.old) (D.faults disk.new) result }
+    ensures failure { CountsFailure result (D.calls disk.new) (D.faults disk.old) (D.faults disk.new) (D.failed_at disk.old) (D.failed_at disk.new) }
 {
     let mut superblock = [0; 512];
     put_superblock(disk, &superblock)?;
@@ -134,8 +139,9 @@ fn write_volume<D: Disk>(
 ///
 /// # Errors
 ///
-/// `Sectors` where the disk is too small, and `Mem`: then the disk is as it was. `Disk` where it
-/// failed; it makes no call of the disk after that.
+/// `Sectors` where the disk is too small, and `Mem`: then the disk is as it was. `Disk` where one of
+/// its calls failed, and only there. Then no other call failed, and no write and no flush was
+/// counted behind the one that did.
 pub fn mkfs<D: Disk>(
     alloc: Global,
     disk: &mut D,
@@ -145,6 +151,8 @@ pub fn mkfs<D: Disk>(
     requires { IsGeometry g.now }
     ensures made { OnOk result (IfSome (D.present disk.old) (λ before. IfSome (D.present disk.new) (IsMkfsImage g.now moment before))) }
     ensures told { OnOk result (is_some (D.present disk.new) ≡ is_some (D.present disk.old)) }
+    ensures lists { is_some (D.listed disk.new) ≡ is_some (D.listed disk.old) }
+    ensures opens { OnOk result (IfSome (D.present disk.new) Opens) }
     ensures small { D.sectors disk.old < 8 * blocks_of g.now → result ≡ Err (Sectors (D.sectors disk.old)) }
     ensures only_small { (n : ℕ) → result ≡ Err (Sectors n) → (n ≡ D.sectors disk.old) × (n < 8 * blocks_of g.now) }
     ensures untouched { OnErr result ((result ≡ Err Disk) ⊎ IsUntouched (D.present disk.old) (D.present disk.new) (D.listed disk.old) (D.listed disk.new) (D.calls disk.old) (D.calls disk.new)) }
@@ -155,6 +163,8 @@ pub fn mkfs<D: Disk>(
     ensures sectors { D.sectors disk.new ≡ D.sectors disk.old }
     ensures later { D.faults disk.old ≤ D.faults disk.new }
     ensures cause { result ≡ Err Disk → Rose (D.faults disk.old) (D.faults disk.new) }
+    ensures failed { result ≡ Err Disk → FailedLast (D.calls disk.new) (D.faults disk.old) (D.faults disk.new) (D.failed_at disk.new) }
+    ensures none_failed { result ≢ Err Disk → NoneFailed (D.faults disk.old) (D.faults disk.new) (D.failed_at disk.old) (D.failed_at disk.new) }
 {
     let sectors = disk.sectors();
     if sectors < 8 * u64::from(g.total()) {
@@ -169,10 +179,10 @@ pub fn mkfs<D: Disk>(
 }
 
 /// What a crash may leave of [`mkfs`] after so many of its calls of the disk: the disk as it was, or no
-/// volume, or a volume of this geometry. The log of that volume recovers the content that [`mkfs`]
-/// makes, and no sector of its ring has an ident above the epoch of the log's header.
+/// volume, or a volume of this geometry. That volume opens, and its log recovers the content that
+/// [`mkfs`] makes.
 pub fn mkfs_outcomes()
-    ensures { (g : Geometry) (moment : ℕ) (before : Image) (k n : ℕ) (image : Image) → IsGeometry g → length before % 512 ≡ 0 → 4096 * blocks_of g ≤ length before → n ≤ k
+    ensures { (g : Geometry) (moment : ℕ) (before : Image) (k n : ℕ) (image : Image) → IsGeometry g → moment < 2 ^ 64 → length before % 512 ≡ 0 → 4096 * blocks_of g ≤ length before → n ≤ k
         → Outcome (record { opening = before; calls = take k (mkfs_calls g moment) }) n image → IsMkfsOutcome g moment before image }
 {}
 

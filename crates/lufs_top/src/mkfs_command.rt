@@ -1,13 +1,14 @@
-ghost use Rattle.std.specs.Prelude.{◌≡◌, ◌≢◌, ◌≤◌, ◌⊎◌, ℕ, List, Some, IfSome, IsTrue};
+ghost use Rattle.std.specs.Prelude.{◌≡◌, ◌≢◌, ◌≤◌, ◌⊎◌, ℕ, List, Some, IfSome, IsTrue, is_some};
 ghost use Rattle.lufs_base.specs.Causes.{Rose};
 ghost use Rattle.lufs_base.specs.Layout.{IsGeometry};
+ghost use Rattle.sector_disk.specs.Disk.{StopsAtFailure};
 ghost use Rattle.lufs_top.specs.declared.ending.Ending.TheVariants.{DiskFault};
 ghost use Rattle.lufs_top.specs.declared.ending.BadNumber.{BadNumber};
 ghost use Rattle.lufs_top.specs.Ending.{status_of};
 ghost use Rattle.lufs_top.specs.MkfsCrash.{IsSafeMaking, IsSafeMakingOf, IsKept, IsKeptOf};
 ghost use Rattle.lufs_top.specs.MkfsRun.{MakesVolume, IsMkfsOf};
 ghost use Rattle.lufs_top.specs.Numbers.{first_out_of_range, geometry_from};
-ghost use Rattle.lufs_top.specs.Run.{IsBack, IsHeld, IsMade, IsMkfsEnding, IsRefused, MadeDiskRose, AsksWanted, wanted_by};
+ghost use Rattle.lufs_top.specs.Run.{IsBack, IsHeld, IsMade, IsMkfsEnding, IsRefused, MadeDiskRose, StopsAtFailureOf, AsksWanted, wanted_by};
 ghost use Rattle.lufs_top.specs.declared.words.Action.TheVariants.{Mkfs};
 ghost use Rattle.host_io.specs.declared.host.AskKind.TheVariants.{MakeDisk};
 
@@ -30,6 +31,8 @@ fn mkfs_volume<D: Disk>(alloc: Global, disk: &mut D, g: &Geometry, moment: u64) 
     ensures sectors { D.sectors disk.new ≡ D.sectors disk.old }
     ensures later { D.faults disk.old ≤ D.faults disk.new }
     ensures cause { result ≡ DiskFault → Rose (D.faults disk.old) (D.faults disk.new) }
+    ensures stops { StopsAtFailure (D.calls disk.new) (D.faults disk.old) (D.faults disk.new) (D.failed_at disk.old) (D.failed_at disk.new) }
+    ensures lists { is_some (D.listed disk.new) ≡ is_some (D.listed disk.old) }
 {
     let Ok(text) = mkfs_text(alloc, g) else {
         return Ending::NoMemory;
@@ -50,9 +53,10 @@ fn mkfs_on<H: Host>(alloc: Global, host: &mut H, name: &str, g: &Geometry) -> En
     requires { IsGeometry g.now }
     ensures ending { IsMkfsOf (H.tells host.old) H.D.sectors H.D.present H.D.listed H.D.calls (H.moment host.old) g.now (H.disk_at host.old name.now) (H.disk_at host.new name.now) result }
     ensures crash { IsSafeMakingOf H.D.present H.D.listed H.D.calls (H.moment host.old) g.now (H.disk_at host.old name.now) (H.disk_at host.new name.now) }
-    ensures settled { status_of result ≡ 0 → IsKeptOf H.D.present H.D.listed H.D.calls (H.disk_at host.old name.now) (H.disk_at host.new name.now) }
+    ensures settled { status_of result ≡ 0 → IsKeptOf H.D.present H.D.listed H.D.calls g.now (H.disk_at host.old name.now) (H.disk_at host.new name.now) }
     ensures fault { result ≡ DiskFault → IsTrue (H.tells host.old)
         → Rose (H.faults host.old) (H.faults host.new) ⊎ MadeDiskRose H.D.faults (H.disk_at host.old name.now) (H.disk_at host.new name.now) }
+    ensures stops { StopsAtFailureOf H.D.calls H.D.faults H.D.failed_at (H.disk_at host.old name.now) (H.disk_at host.new name.now) }
     ensures held { IsHeld H.D.sectors (H.disk_at host.old name.now) (H.disk_at host.new name.now) }
     ensures other_disks { (q : List ℕ) → q ≢ name.now → H.disk_at host.new q ≡ H.disk_at host.old q }
     ensures sinks { (H.sink_at host.new ≡ H.sink_at host.old) × (H.sink_lent host.new ≡ H.sink_lent host.old) }
@@ -84,12 +88,13 @@ pub(crate) fn mkfs_named<H: Host>(
     ensures ending { IsMkfsEnding (H.tells host.old) H.D.sectors numbers (H.disk_at host.old name.now) result }
     ensures made { status_of result ≡ 0 → IsTrue (H.tells host.old) → IsMade H.D.sectors H.D.present (H.moment host.old) (geometry_from numbers) (H.disk_at host.old name.now) (H.disk_at host.new name.now) }
     ensures crash { first_out_of_range numbers ≡ None → IsSafeMakingOf H.D.present H.D.listed H.D.calls (H.moment host.old) (geometry_from numbers) (H.disk_at host.old name.now) (H.disk_at host.new name.now) }
-    ensures settled { status_of result ≡ 0 → IsKeptOf H.D.present H.D.listed H.D.calls (H.disk_at host.old name.now) (H.disk_at host.new name.now) }
+    ensures settled { status_of result ≡ 0 → IsKeptOf H.D.present H.D.listed H.D.calls (geometry_from numbers) (H.disk_at host.old name.now) (H.disk_at host.new name.now) }
     ensures unwritten { status_of result ≡ 10 → IsBack H.D.present H.D.listed H.D.calls (H.disk_at host.old name.now) (H.disk_at host.new name.now) }
     ensures geometry { status_of result ≡ 10 → (bad : BadNumber) × IsRefused (H.tells host.old) H.D.sectors numbers (H.disk_at host.old name.now) bad }
     ensures out_of_range { IfSome (first_out_of_range numbers) (λ _. (status_of result ≡ 10) × (H.disk_at host.new ≡ H.disk_at host.old)) }
     ensures fault { result ≡ DiskFault → IsTrue (H.tells host.old)
         → Rose (H.faults host.old) (H.faults host.new) ⊎ MadeDiskRose H.D.faults (H.disk_at host.old name.now) (H.disk_at host.new name.now) }
+    ensures stops { StopsAtFailureOf H.D.calls H.D.faults H.D.failed_at (H.disk_at host.old name.now) (H.disk_at host.new name.now) }
     ensures held { IsHeld H.D.sectors (H.disk_at host.old name.now) (H.disk_at host.new name.now) }
     ensures other_disks { (q : List ℕ) → q ≢ name.now → H.disk_at host.new q ≡ H.disk_at host.old q }
     ensures sinks { (H.sink_at host.new ≡ H.sink_at host.old) × (H.sink_lent host.new ≡ H.sink_lent host.old) }

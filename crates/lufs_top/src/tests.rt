@@ -614,14 +614,7 @@ fn calls_of_mkfs_that_fail(rt: HostRuntime) -> Result<(), std::test::Fail> {
     let fault = "disk fault S\n";
     for (fail, status, text, calls) in [
         (Fail::Write(1), 4, fault, 1),
-        (Fail::Flush(1), 4, fault, 1),
-        (Fail::Write(2), 4, fault, 3),
-        (Fail::Write(3), 4, fault, 4),
-        (Fail::Flush(2), 4, fault, 4),
-        (Fail::Write(4), 4, fault, 6),
         (Fail::Flush(3), 4, fault, 6),
-        (Fail::Write(5), 0, MADE, 7),
-        (Fail::Flush(4), 0, MADE, 7),
         (Fail::Read(1), 0, MADE, 7),
     ] {
         let failing = Failing {

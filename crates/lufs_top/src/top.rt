@@ -5,7 +5,7 @@ ghost use Rattle.lufs_top.specs.declared.ending.BadNumber.{BadNumber};
 ghost use Rattle.lufs_top.specs.MkfsCrash.{IsSafeMakingOf, IsKeptOf};
 ghost use Rattle.lufs_top.specs.Numbers.{first_out_of_range, geometry_from};
 ghost use Rattle.lufs_top.specs.Words.{volume_of, scan_of, mkfs_of, standard_output};
-ghost use Rattle.lufs_top.specs.Run.{told_image, at_volume, wanted_of, IsListed, IsBadLog, IsMade, IsRefused, IsHeld, IsBack, DiskRose, MadeDiskRose, IsSaid, IsTrueEnding, IsWithoutOutput, AsksInOrder};
+ghost use Rattle.lufs_top.specs.Run.{told_image, at_volume, wanted_of, IsListed, IsBadLog, IsMade, IsRefused, IsHeld, IsBack, DiskRose, MadeDiskRose, StopsAtFailureOf, IsSaid, IsTrueEnding, IsWithoutOutput, AsksInOrder};
 
 use crate::command::run_command;
 use crate::report::{NO_MEMORY, REPLY_FAULT, report};
@@ -50,11 +50,12 @@ pub fn run<H: Host>(alloc: Global, host: &mut H, words: &[String]) -> u8
     ensures out_of_range { IfSome (option_and_then first_out_of_range (mkfs_of words.now)) (λ _. ((result ≡ 10) ⊎ ((result ≡ 5) ⊎ (result ≡ 12))) × (H.disk_at host.new ≡ H.disk_at host.old)) }
     ensures making { IsSome (mkfs_of words.now) → Contains (0 ∷ 4 ∷ 5 ∷ 10 ∷ 12 ∷ []) result }
 
-    // Whenever a crash comes while a volume is made on a disk that was there: the disk is as it was, or holds
-    // no volume, or the new one. At status 0 all that was written to it is kept.
+    // Whenever a crash comes while a volume is made: the disk is as it was, or, where it was made for the
+    // volume, zeros; or it holds no volume, or the new one. At status 0 all that was written to it is kept.
     ensures crash { IfSome (mkfs_of words.now) (λ numbers. first_out_of_range numbers ≡ None → IsSafeMakingOf H.D.present H.D.listed H.D.calls (H.moment host.old) (geometry_from numbers)
         (at_volume (H.disk_at host.old) (volume_of words.now)) (at_volume (H.disk_at host.new) (volume_of words.now))) }
-    ensures settled { result ≡ 0 → IsSome (mkfs_of words.now) → IsKeptOf H.D.present H.D.listed H.D.calls (at_volume (H.disk_at host.old) (volume_of words.now)) (at_volume (H.disk_at host.new) (volume_of words.now)) }
+    ensures settled { result ≡ 0 → IfSome (mkfs_of words.now) (λ numbers. IsKeptOf H.D.present H.D.listed H.D.calls (geometry_from numbers)
+        (at_volume (H.disk_at host.old) (volume_of words.now)) (at_volume (H.disk_at host.new) (volume_of words.now))) }
 
     // A failure is told only where a count rose in this run.
     ensures missing { result ≡ 2 → Rose (H.absent host.old) (H.absent host.new) }
@@ -62,6 +63,8 @@ pub fn run<H: Host>(alloc: Global, host: &mut H, words: &[String]) -> u8
         ⊎ DiskRose H.D.faults (at_volume (H.disk_at host.old) (volume_of words.now)) (at_volume (H.disk_at host.new) (volume_of words.now)) }
     ensures made_disk_fault { result ≡ 4 → IsTrue (H.tells host.old) → IsSome (mkfs_of words.now) → Rose (H.faults host.old) (H.faults host.new)
         ⊎ MadeDiskRose H.D.faults (at_volume (H.disk_at host.old) (volume_of words.now)) (at_volume (H.disk_at host.new) (volume_of words.now)) }
+    // Behind a call of the disk that failed no write, no flush and no other failure of it is counted.
+    ensures stops { StopsAtFailureOf H.D.calls H.D.faults H.D.failed_at (at_volume (H.disk_at host.old) (volume_of words.now)) (at_volume (H.disk_at host.new) (volume_of words.now)) }
     ensures reply_fault { result ≡ 5 → IsTrue (H.tells host.old) → Rose (H.faults host.old) (H.faults host.new)
         ⊎ IsSomeAnd (H.sink_at host.new standard_output) (λ k. 0 < H.K.faults k) }
     ensures statuses { Contains (0 ∷ 1 ∷ 2 ∷ 4 ∷ 5 ∷ 6 ∷ 10 ∷ 11 ∷ 12 ∷ []) result }

@@ -1,7 +1,8 @@
-ghost use Rattle.std.specs.Prelude.{◌≡◌, ◌≤◌, ◌*◌, ◌+◌, Some, None, Err, IfSome, IfOk, IfErr};
+ghost use Rattle.std.specs.Prelude.{◌≡◌, ◌≢◌, ◌≤◌, ◌*◌, ◌+◌, Some, None, Err, IfSome, IfOk, IfErr};
 ghost use Rattle.lufs_base.specs.Causes.{Rose};
 ghost use Rattle.lufs_base.specs.Layout.{IsGeometry, blocks_of};
 ghost use Rattle.volume_model.specs.Superblock.{geometry_of};
+ghost use Rattle.sector_disk.specs.Disk.{NoneFailed, FailedLast, StopsAtFailure};
 ghost use Rattle.lufs_top.specs.declared.ending.Ending.TheVariants.{DiskFault};
 ghost use Rattle.lufs_top.specs.Ending.{IsEndingOf, IsOfVolume, ending_of_error};
 
@@ -35,6 +36,8 @@ fn read_geometry<D: Disk>(disk: &mut D) -> Result<Geometry, GeometryError>
     ensures sectors { D.sectors disk.new ≡ D.sectors disk.old }
     ensures later { D.faults disk.old ≤ D.faults disk.new }
     ensures cause { result ≡ Err GeometryError.Disk → Rose (D.faults disk.old) (D.faults disk.new) }
+    ensures failed { result ≡ Err GeometryError.Disk → FailedLast (D.calls disk.new) (D.faults disk.old) (D.faults disk.new) (D.failed_at disk.new) }
+    ensures none_failed { result ≢ Err GeometryError.Disk → NoneFailed (D.faults disk.old) (D.faults disk.new) (D.failed_at disk.old) (D.failed_at disk.new) }
 {
     let sectors = disk.sectors();
     if sectors <= SUPERBLOCK {
@@ -72,6 +75,7 @@ pub(crate) fn scan_volume<D: Disk>(alloc: Global, disk: &mut D) -> Ending
     ensures sectors { D.sectors disk.new ≡ D.sectors disk.old }
     ensures later { D.faults disk.old ≤ D.faults disk.new }
     ensures cause { result ≡ DiskFault → Rose (D.faults disk.old) (D.faults disk.new) }
+    ensures stops { StopsAtFailure (D.calls disk.new) (D.faults disk.old) (D.faults disk.new) (D.failed_at disk.old) (D.failed_at disk.new) }
 {
     let g = match read_geometry(disk) {
         Ok(g) => g,

@@ -37,4 +37,5 @@ loop-n-preserved g c =
       size = c.write-in-loop-n.ensures.sectors ∙ c.loop-n.invariant.size;
       count = omega (arith, c.loop-n.invariant.count, c.write-in-loop-n.ensures.calls);
       later = omega (arith, c.loop-n.invariant.later, c.write-in-loop-n.ensures.cause.later);
+      none_failed = (c.in_ok-write-2.ensures.failure.0 ∙ c.loop-n.invariant.none_failed.0, c.in_ok-write-2.ensures.failure.1 ∙ c.loop-n.invariant.none_failed.1);
     }
