@@ -5,7 +5,7 @@ use Rattle.std.proofs.lemmas.Bool.{and_parts, and_from, eqb-true, eq-eqb, cases_
 use Rattle.std.proofs.lemmas.Nat.Bits.{bit_at-zero, bit_at-lt, same_from_bits_below}
 use Rattle.std.specs.List.{list_all, range_with_len}
 use Rattle.lufs_base.specs.Fields.{AreBytes, are_zeros}
-use Rattle.volume_model.specs.GroupRecord.{bit_at, are_set}
+use Rattle.volume_model.specs.Format.{bit_at, are_set}
 
 zero_at : (bytes : List ℕ) → are_zeros bytes ≡ true → (i : ℕ) → slice_index bytes i ≡ 0
 zero_at [] are i = refl

@@ -1,7 +1,7 @@
 -- How the number of clear bits follows a change of one bit.
 use Rattle.std.proofs.Common.{◌≡◌, ℕ, zero, suc, ◌+◌, ◌<◌, ◌≤◌, Bool, true, false, if◌then◌else◌, List, inl, inr, refl, sym, ap, ◌∙◌, arith}
 use Rattle.std.proofs.lemmas.Bool.{cases_eq}
-use Rattle.volume_model.specs.GroupRecord.{bit_at, clear_bits}
+use Rattle.volume_model.specs.Format.{bit_at, clear_bits}
 use Rattle.cyl_groups.specs.Bits.{HasBitPut}
 
 counts_one : (a n : ℕ) (b : Bool) → a ≤ n → a + (if b then 0 else 1) ≤ suc n

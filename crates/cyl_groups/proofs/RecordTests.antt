@@ -6,7 +6,7 @@ use Rattle.lufs_base.specs.Fields.{AreBytes, u32_at, are_zeros}
 use Rattle.lufs_base.specs.Layout.{IsGeometry}
 use Rattle.lufs_base.specs.declared.geometry.Geometry.{Geometry}
 use Rattle.lufs_base.proofs.TestedValue.{refused, given}
-use Rattle.volume_model.specs.GroupRecord.{GroupRecord, bit_at, are_set, named_group, has_clear_rest, has_reserved, is_group, group_of, IsGroup}
+use Rattle.volume_model.specs.Format.{GroupRecord, bit_at, are_set, named_group, has_clear_rest, has_reserved, is_group, group_of, IsGroup}
 use Rattle.volume_model.proofs.SetBits.{each_set}
 use Rattle.cyl_groups.proofs.BitRuns.{clear_from_zeros, zeros_from_clear, set_from_each}
 

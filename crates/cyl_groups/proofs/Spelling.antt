@@ -6,7 +6,7 @@ use Rattle.lufs_base.specs.Fields.{AreBytes, u32_at, field_bytes, put_at}
 use Rattle.lufs_base.specs.Layout.{IsGeometry}
 use Rattle.lufs_base.specs.declared.geometry.Geometry.{Geometry}
 use Rattle.lufs_base.proofs.Spelling.{read_back_of}
-use Rattle.volume_model.specs.GroupRecord.{GroupRecord, named_group, has_clear_rest, has_reserved, is_group, group_of, group_bytes, IsGroup}
+use Rattle.volume_model.specs.Format.{GroupRecord, named_group, has_clear_rest, has_reserved, is_group, group_of, group_bytes, IsGroup}
 use Rattle.volume_model.proofs.Pieces.{field_again, zeros_again, length-put_at, pieces, whole_piece}
 use Rattle.cyl_groups.proofs.RecordTests.{Passes, parts, a_group, tests_of_bits}
 

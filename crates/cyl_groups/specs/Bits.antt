@@ -1,6 +1,6 @@
 -- What a search of bits finds, and what a change of one bit leaves.
 use Rattle.std.specs.Prelude.{◌≡◌, ◌≢◌, ◌<◌, ◌≤◌, ℕ, Bool, true, false, List, Option, Some, None}
-use Rattle.volume_model.specs.GroupRecord.{bit_at}
+use Rattle.volume_model.specs.Format.{bit_at}
 
 -- the first clear bit from bit `from` on, before bit `end`
 abbrev pub IsFirstClear : List ℕ → (from end : ℕ) → Option ℕ → Type 0

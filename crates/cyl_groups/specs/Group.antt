@@ -1,7 +1,7 @@
 -- The group in memory: the record that it stands for, and its counts.
 use Rattle.std.specs.Prelude.{◌≡◌}
 use Rattle.lufs_base.specs.declared.geometry.Geometry.{Geometry}
-use Rattle.volume_model.specs.GroupRecord.{GroupRecord, clear_bits}
+use Rattle.volume_model.specs.Format.{GroupRecord, clear_bits}
 use Rattle.cyl_groups.specs.declared.group.Group.{Group}
 
 -- the record that a group stands for

@@ -1,5 +1,5 @@
 ghost use Rattle.std.specs.Prelude.{◌≡◌, ◌<◌, ◌≤◌, ◌*◌, length, true, false};
-ghost use Rattle.volume_model.specs.GroupRecord.{bit_at, are_set};
+ghost use Rattle.volume_model.specs.Format.{bit_at, are_set};
 ghost use Rattle.cyl_groups.specs.Bits.{IsFirstClear, HasBitPut};
 
 /// Whether bit `i` is set.

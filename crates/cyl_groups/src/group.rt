@@ -25,7 +25,7 @@ pub struct Group {
 
 impl Group {
     ghost use Rattle.std.specs.Prelude.{◌≡◌, ◌+◌, ◌<◌, true, false};
-    ghost use Rattle.volume_model.specs.GroupRecord.{bit_at};
+    ghost use Rattle.volume_model.specs.Format.{bit_at};
     ghost use Rattle.cyl_groups.specs.Bits.{IsFirstClear, HasBitPut};
     ghost use Rattle.cyl_groups.specs.Group.{IsCounted, OnlyInodes, OnlyBlocks};
 

@@ -3,7 +3,7 @@ ghost use Rattle.std.specs.Result.{result_ok};
 ghost use Rattle.lufs_base.specs.Fields.{AreBytes};
 ghost use Rattle.lufs_base.specs.Layout.{IsGeometry};
 ghost use Rattle.lufs_base.specs.declared.geometry.Geometry.{Geometry};
-ghost use Rattle.volume_model.specs.GroupRecord.{GroupRecord, has_clear_rest, has_reserved, group_of, group_bytes, IsGroup};
+ghost use Rattle.volume_model.specs.Format.{GroupRecord, has_clear_rest, has_reserved, group_of, group_bytes, IsGroup};
 ghost use Rattle.cyl_groups.specs.Group.{record_of, HasSizesOf};
 
 use crate::Group;

@@ -1,5 +1,5 @@
 ghost use Rattle.std.specs.Prelude.{◌≡◌, ◌≤◌, true, false};
-ghost use Rattle.volume_model.specs.GroupRecord.{bit_at};
+ghost use Rattle.volume_model.specs.Format.{bit_at};
 ghost use Rattle.cyl_groups.specs.Group.{IsCounted};
 
 use crate::{Group, read_group, write_group};

@@ -6,7 +6,7 @@ use Rattle.std.proofs.lemmas.Option.{slice_get-get_or}
 use Rattle.std.proofs.lemmas.List.{get_or_read}
 use Rattle.std.proofs.lemmas.List.Sums.{sum_by-cons}
 use Rattle.volume_model.specs.declared.directory.Slot.{Slot}
-use Rattle.volume_model.specs.DirectoryChunk.{kept_length, entered, with_name_at, with_ino, without_slot, found_at, IsUsed}
+use Rattle.volume_model.specs.Format.{kept_length, entered, with_name_at, with_ino, without_slot, found_at, IsUsed}
 
 -- a slot names another inode
 pub renumbered : (slots : List Slot) (place i : ℕ) (s : Slot) → place < length slots → s ≡ get_or slots place s

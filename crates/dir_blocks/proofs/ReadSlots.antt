@@ -6,7 +6,7 @@ use Rattle.lufs_base.specs.Fields.{AreBytes, u16_at, u32_at}
 use Rattle.lufs_base.specs.Name.{is_name, IsName}
 use Rattle.lufs_base.proofs.Spelling.{number_in-lt}
 use Rattle.volume_model.specs.declared.directory.Slot.{Slot}
-use Rattle.volume_model.specs.DirectoryChunk.{IsSlot, IsChunk, least_length, is_named, is_slot, slot_at, slots_in, chunk_of}
+use Rattle.volume_model.specs.Format.{IsSlot, IsChunk, least_length, is_named, is_slot, slot_at, slots_in, chunk_of}
 use Rattle.dir_blocks.proofs.RightSlots.{AreRight, none_right, with_first, is_chunk}
 
 bytes_behind : (k : ℕ) (bytes : List ℕ) → AreBytes bytes → AreBytes (drop k bytes)

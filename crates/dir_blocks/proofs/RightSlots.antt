@@ -6,7 +6,7 @@ use Rattle.std.proofs.lemmas.List.Elements.{All-cons}
 use Rattle.std.proofs.lemmas.List.Sums.{sum_by-cons}
 use Rattle.lufs_base.specs.Name.{IsName}
 use Rattle.volume_model.specs.declared.directory.Slot.{Slot}
-use Rattle.volume_model.specs.DirectoryChunk.{IsSlot, IsChunk, least_length, kept_length, entered, with_name_at, with_ino, joined, without_slot, room_in, IsUsed}
+use Rattle.volume_model.specs.Format.{IsSlot, IsChunk, least_length, kept_length, entered, with_name_at, with_ino, joined, without_slot, room_in, IsUsed}
 
 abbrev lengths : List Slot → ℕ
 lengths slots = sum_by (λ s. s.len) slots

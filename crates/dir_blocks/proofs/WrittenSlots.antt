@@ -11,7 +11,7 @@ use Rattle.lufs_base.proofs.Spelling.{read_back_of}
 use Rattle.lufs_base.proofs.Written.{put_at_behind, put_at_all}
 use Rattle.lufs_base.specs.Name.{is_name}
 use Rattle.volume_model.specs.declared.directory.Slot.{Slot}
-use Rattle.volume_model.specs.DirectoryChunk.{IsSlot, IsChunk, least_length, is_named, is_slot, slot_at, slots_in, slot_bytes, chunk_bytes, chunk_of}
+use Rattle.volume_model.specs.Format.{IsSlot, IsChunk, least_length, is_named, is_slot, slot_at, slots_in, slot_bytes, chunk_bytes, chunk_of}
 use Rattle.dir_blocks.proofs.ReadSlots.{at_front, at_end, chunk_by_size}
 
 -- a slot that may be written has room for its name

@@ -2,7 +2,7 @@ ghost use Rattle.std.specs.Prelude.{◌≡◌, ◌≢◌, ℕ, List, ◌∷◌, 
 ghost use Rattle.lufs_base.specs.Fields.{AreBytes};
 ghost use Rattle.lufs_base.specs.Name.{IsName};
 ghost use Rattle.volume_model.specs.declared.directory.Slot.{Slot};
-ghost use Rattle.volume_model.specs.DirectoryChunk.{chunk_of, chunk_bytes, IsChunk, found_at, room_in, with_name, with_ino, without_slot, one_slot, new_directory, IsUsed};
+ghost use Rattle.volume_model.specs.Format.{chunk_of, chunk_bytes, IsChunk, found_at, room_in, with_name, with_ino, without_slot, one_slot, new_directory, IsUsed};
 ghost use Rattle.dir_blocks.specs.declared.chunk.ChunkError.TheVariants.{Mem as no_memory};
 ghost use Rattle.dir_blocks.specs.Answers.{IsRead};
 
@@ -22,7 +22,7 @@ pub struct Chunk {
 impl Model for Chunk {
     ghost use Rattle.std.specs.Prelude.{List};
     ghost use Rattle.volume_model.specs.declared.directory.Slot.{Slot};
-    ghost use Rattle.volume_model.specs.DirectoryChunk.{IsChunk};
+    ghost use Rattle.volume_model.specs.Format.{IsChunk};
 
     ghost Value = { List Slot };
 

@@ -1,5 +1,5 @@
 ghost use Rattle.std.specs.Prelude.{◌≡◌, ◌^◌, ◌<◌, ◌≤◌, sum_by, All, length, OnOk, OnErr};
-ghost use Rattle.volume_model.specs.DirectoryChunk.{kept_length, with_name_at, with_ino, without_slot};
+ghost use Rattle.volume_model.specs.Format.{kept_length, with_name_at, with_ino, without_slot};
 
 use crate::slot::kept_length;
 use lufs_base::{Mem, Name};

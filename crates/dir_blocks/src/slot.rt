@@ -1,6 +1,6 @@
 ghost use Rattle.std.specs.Prelude.{◌≡◌, ◌+◌, ◌-◌, ◌^◌, ◌<◌, ◌≤◌, ◌==◌, nat_le, not, ◌&&◌, bytes_eq, true, length, IfOk};
 ghost use Rattle.lufs_base.specs.Fields.{u16_at, put_at};
-ghost use Rattle.volume_model.specs.DirectoryChunk.{least_length, kept_length, is_slot, is_named, slot_at, slot_bytes, found_at, IsSlot};
+ghost use Rattle.volume_model.specs.Format.{least_length, kept_length, is_slot, is_named, slot_at, slot_bytes, found_at, IsSlot};
 
 use crate::fill::{put_bytes, put_zeros};
 use lufs_base::{Mem, Name, get_u16, get_u32, is_name, put_u16, put_u32};

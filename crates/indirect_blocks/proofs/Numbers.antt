@@ -6,7 +6,7 @@ use Rattle.std.proofs.lemmas.Grind.{flat_map-append}
 use Rattle.lufs_base.specs.Fields.{u32_at, number_in, field_bytes, put_at, AreBytes}
 use Rattle.lufs_base.proofs.Spelling.{read_back_of, spelled_again_of}
 use Rattle.lufs_base.proofs.Written.{put_at_behind, put_at_all}
-use Rattle.volume_model.specs.PointerBlock.{pointers_of, pointer_bytes}
+use Rattle.volume_model.specs.Format.{pointers_of, pointer_bytes}
 
 -- n numbers of the bytes, from number a on
 abbrev numbers_from : List ℕ → (a n : ℕ) → List ℕ

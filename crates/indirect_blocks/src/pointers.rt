@@ -1,6 +1,6 @@
 ghost use Rattle.std.specs.Prelude.{◌≡◌, ℕ, List, ◌<◌, ◌^◌, length, All, IfOk, slice_index, slice_set};
 ghost use Rattle.lufs_base.specs.Fields.{AreBytes};
-ghost use Rattle.volume_model.specs.PointerBlock.{pointers_of, pointer_bytes};
+ghost use Rattle.volume_model.specs.Format.{pointers_of, pointer_bytes};
 
 use lufs_base::{Mem, get_u32, put_u32};
 use std::alloc::Global;

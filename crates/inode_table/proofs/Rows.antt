@@ -3,7 +3,7 @@ use Rattle.std.proofs.Common.{◌≡◌, ℕ, zero, suc, ◌+◌, ◌*◌, ◌^�
 use Rattle.std.proofs.lemmas.List.{append_assoc, drop-drop, ext_get_or, length-drop}
 use Rattle.lufs_base.specs.Fields.{AreBytes, number_in, u32_at, field_bytes}
 use Rattle.lufs_base.proofs.Spelling.{read_back_of, spelled_again_of}
-use Rattle.volume_model.specs.InodeRecord.{numbers_in, numbers_bytes}
+use Rattle.volume_model.specs.Format.{numbers_in, numbers_bytes}
 use Rattle.volume_model.proofs.Pieces.{rest_is_bytes}
 
 pub length-numbers_in : (n : ℕ) (bytes : List ℕ) → length (numbers_in n bytes) ≡ n

@@ -8,7 +8,7 @@ use Rattle.lufs_base.specs.Fields.{AreBytes, number_in, u16_at, u32_at, u64_at, 
 use Rattle.lufs_base.proofs.Spelling.{read_back_of}
 use Rattle.lufs_base.specs.Fields.{are_zeros}
 use Rattle.volume_model.specs.declared.inode.Dinode.{Dinode}
-use Rattle.volume_model.specs.InodeRecord.{is_mode, numbers_in, numbers_bytes, named_dinode, has_indirect, is_dinode, dinode_of, dinode_bytes, IsDinode}
+use Rattle.volume_model.specs.Format.{is_mode, numbers_in, numbers_bytes, named_dinode, has_indirect, is_dinode, dinode_of, dinode_bytes, IsDinode}
 use Rattle.volume_model.proofs.Pieces.{rest_is_bytes, field_again, zeros_again, length-put_at, pieces}
 use Rattle.inode_table.proofs.Rows.{number_of_row, length-numbers_bytes, row_back, row_again}
 

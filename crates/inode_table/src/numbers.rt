@@ -1,6 +1,6 @@
 ghost use Rattle.std.specs.Prelude.{◌≡◌, ℕ, ◌<◌, ◌^◌, slice_index, ◌+◌, ◌*◌, ◌≤◌, length, drop};
 ghost use Rattle.lufs_base.specs.Fields.{put_at};
-ghost use Rattle.volume_model.specs.InodeRecord.{numbers_in, numbers_bytes};
+ghost use Rattle.volume_model.specs.Format.{numbers_in, numbers_bytes};
 
 use lufs_base::{get_u32, put_u32};
 

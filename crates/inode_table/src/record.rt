@@ -2,7 +2,7 @@ ghost use Rattle.std.specs.Prelude.{◌≡◌, ℕ, List, ◌≤◌, Option, Som
 ghost use Rattle.std.specs.Result.{result_ok};
 ghost use Rattle.lufs_base.specs.Fields.{AreBytes};
 ghost use Rattle.volume_model.specs.declared.inode.Dinode.{Dinode};
-ghost use Rattle.volume_model.specs.InodeRecord.{is_mode, has_indirect, is_dinode, dinode_of, dinode_bytes, IsDinode};
+ghost use Rattle.volume_model.specs.Format.{is_mode, has_indirect, is_dinode, dinode_of, dinode_bytes, IsDinode};
 
 use crate::numbers::{get_numbers, put_numbers};
 use lufs_base::{are_zeros, get_u16, get_u32, get_u64, put_u16, put_u32, put_u64};
@@ -46,7 +46,7 @@ fn is_dinode(version: u32, bytes: &[u8]) -> bool
 
 /// The inode in a record (`docs/FORMAT.md`, "Inode record"), or None where the record is free. It is
 /// refused exactly where the format allows none.
-#[tactic(auto, unfolding(volume_model::specs::InodeRecord::dinode_of))]
+#[tactic(auto, unfolding(volume_model::specs::Format::InodeRecords::dinode_of))]
 pub fn read_dinode(version: u32, bytes: &[u8]) -> Result<Option<Dinode>, BadInode>
     requires { length bytes.now ≡ 128 }
     ensures value { result_ok result ≡ dinode_of version bytes.now }
@@ -89,7 +89,7 @@ fn put_dinode(d: &Dinode, out: &mut [u8])
 }
 
 /// Writes the record of this inode, or a free one (`docs/FORMAT.md`, "Inode record").
-#[tactic(auto, unfolding(volume_model::specs::InodeRecord::dinode_bytes))]
+#[tactic(auto, unfolding(volume_model::specs::Format::InodeRecords::dinode_bytes))]
 pub fn write_dinode(d: Option<&Dinode>, out: &mut [u8])
     requires { length out.old ≡ 128 }
     ensures { out.new ≡ dinode_bytes (option_map (λ d. d.now) d.entry) }

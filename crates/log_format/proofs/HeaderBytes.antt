@@ -5,7 +5,7 @@ use Rattle.lufs_base.specs.declared.geometry.Geometry.{Geometry}
 use Rattle.lufs_base.proofs.Spelling.{read_back_of}
 use Rattle.volume_model.proofs.Pieces.{field_again, zeros_again}
 use Rattle.volume_model.specs.declared.log.Header.{Header}
-use Rattle.volume_model.specs.LogHeader.{header_of, header_bytes, MayBeHeader}
+use Rattle.volume_model.specs.Log.{header_of, header_bytes, MayBeHeader}
 use Rattle.log_format.proofs.HeaderTests.{a_header, is_header_of}
 
 pub header_reads : (g : Geometry) (h : Header) → MayBeHeader g h → header_of g (header_bytes h) ≡ Some h

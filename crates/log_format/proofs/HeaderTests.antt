@@ -5,7 +5,7 @@ use Rattle.lufs_base.specs.Fields.{u32_at, are_zeros}
 use Rattle.lufs_base.specs.Layout.{ring_of}
 use Rattle.lufs_base.specs.declared.geometry.Geometry.{Geometry}
 use Rattle.volume_model.specs.declared.log.Header.{Header}
-use Rattle.volume_model.specs.LogHeader.{named_header, is_header, header_of}
+use Rattle.volume_model.specs.Log.{named_header, is_header, header_of}
 use Rattle.lufs_base.proofs.TestedValue.{refused, given}
 
 pub record IsHeader (g : Geometry) (s : List ℕ) : Type 0 where

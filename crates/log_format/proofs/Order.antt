@@ -11,7 +11,7 @@ use Rattle.lufs_base.specs.declared.delta.Delta.{Delta}
 use Rattle.lufs_base.specs.declared.delta.DeltaKind.{DeltaKind}
 use Rattle.lufs_base.specs.declared.delta.DeltaKind.TheVariants.{Group, Inode, Chunk, Pointers, Zero, LinkText, Cancel}
 use Rattle.lufs_base.specs.Kinds.{has_bytes}
-use Rattle.volume_model.specs.LogRecord.{is_part_of_block, is_zero_block, is_cancel, may_be_logged, may_precede}
+use Rattle.volume_model.specs.Log.{is_part_of_block, is_zero_block, is_cancel, may_be_logged, may_precede}
 use Rattle.log_format.specs.InOrder.{last_of, may_stand_behind, MayBeLogged, InOrder}
 
 part_of_block : (g : Geometry) (kind : DeltaKind) (home len : ℕ) → may_be_logged g kind home len ≡ true → is_part_of_block kind (home % 4096) len ≡ true

@@ -11,9 +11,7 @@ use Rattle.lufs_base.specs.declared.delta.Delta.{Delta}
 use Rattle.lufs_base.specs.declared.delta.DeltaKind.{DeltaKind}
 use Rattle.lufs_base.specs.declared.delta.DeltaKind.TheVariants.{Group, Inode, Chunk, Pointers, Zero, LinkText, Cancel}
 use Rattle.lufs_base.proofs.Spelling.{read_back_of}
-use Rattle.volume_model.specs.LogRecord.{type_of, kind_of, logged_len, may_be_logged, may_precede}
-use Rattle.volume_model.specs.LogRun.{Whole, Front, Logged, Commit, Cut, Wrong, front_of_kind, is_commit, front_of, run_behind}
-use Rattle.volume_model.specs.LogTx.{AreLoggable, delta_record, commit_record}
+use Rattle.volume_model.specs.Log.{type_of, kind_of, logged_len, may_be_logged, may_precede, Whole, Front, Logged, Commit, Cut, Wrong, front_of_kind, is_commit, front_of, run_behind, AreLoggable, delta_record, commit_record}
 use Rattle.log_format.proofs.RunSteps.{run_by_front}
 use Rattle.log_format.proofs.TxSize.{few_blocks, low_home, low_len}
 

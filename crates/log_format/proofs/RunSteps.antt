@@ -3,8 +3,7 @@ use Rattle.std.proofs.Common.{◌≡◌, ℕ, suc, ◌+◌, ◌-◌, ◌<◌, Li
 use Rattle.std.proofs.lemmas.List.{drop-drop, take_rest, length_push}
 use Rattle.lufs_base.specs.declared.geometry.Geometry.{Geometry}
 use Rattle.lufs_base.specs.declared.delta.Delta.{Delta}
-use Rattle.volume_model.specs.LogRecord.{logged_len}
-use Rattle.volume_model.specs.LogRun.{Front as RecordFront, Logged as delta_front, front_of, run_at, run_behind}
+use Rattle.volume_model.specs.Log.{logged_len, Front as RecordFront, Logged as delta_front, front_of, run_at, run_behind}
 use Rattle.log_format.specs.Answers.{IsFront, LoggedIsNext, IsNext}
 use Rattle.log_format.specs.declared.records.Front.{Front}
 use Rattle.log_format.specs.declared.records.Front.TheVariants.{Logged}

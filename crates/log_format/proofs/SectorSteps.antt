@@ -6,8 +6,8 @@ use Rattle.std.specs.List.{copy_within, flat_map}
 use borrow.Rule.Slice.PartMut.{put_mid}
 use Rattle.lufs_base.specs.Fields.{put_at}
 use Rattle.volume_model.specs.declared.log.Trailer.{Trailer}
-use Rattle.volume_model.specs.Image.{pieces_of}
-use Rattle.volume_model.specs.LogTrailer.{trailer_bytes}
+use Rattle.volume_model.specs.Format.{pieces_of}
+use Rattle.volume_model.specs.Log.{trailer_bytes}
 use Rattle.log_format.proofs.Placed.{copied, drop_to-put_at, take_before-put_at, put_over, put_mid_at}
 
 -- a piece of 504 bytes copied to its sector, and the trailer behind it

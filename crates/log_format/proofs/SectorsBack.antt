@@ -1,6 +1,7 @@
 -- Bytes in pieces, and the sectors that carry them.
 use Rattle.std.proofs.Common.{◌≡◌, ℕ, zero, suc, ◌+◌, ◌*◌, ◌/◌, ◌^◌, ◌<◌, true, List, [], ◌∷◌, ◌++◌, length, take, drop, get_or, refl, sym, ap, subst, ◌∙◌, arith, add-one, add_comm, length-append, length-drop}
 use Rattle.std.specs.List.{All, flat_map}
+use Rattle.std.proofs.Common.{map}
 use Rattle.std.proofs.Math.Nat.{add-div_left, mul-zero, mul-suc}
 use Rattle.std.proofs.lemmas.Bool.{and_from, eq-eqb}
 use Rattle.std.proofs.lemmas.List.{nil_from_length, take_at, drop_at, drop-drop, length-take-le, take-append-drop}
@@ -9,10 +10,8 @@ use Rattle.std.proofs.lemmas.List.FromFn.{fill_by_all, length-map-range_with_len
 use Rattle.lufs_base.specs.Fields.{u32_at, field_bytes}
 use Rattle.lufs_base.proofs.Spelling.{read_back_of}
 use Rattle.volume_model.specs.declared.log.Trailer.{Trailer}
-use Rattle.volume_model.specs.Image.{pieces_of, sectors_in}
-use Rattle.volume_model.specs.Log.{belongs_to, payload_of}
-use Rattle.volume_model.specs.LogTrailer.{trailer_bytes}
-use Rattle.volume_model.specs.LogTx.{carrying}
+use Rattle.volume_model.specs.Format.{pieces_of, sectors_in}
+use Rattle.volume_model.specs.Log.{belongs_to, payload_of, trailer_bytes, carrying}
 
 -- the first piece, and those of the rest
 pub pieces_cons : (n : ℕ) (x rest : List ℕ) → 0 < n → length x ≡ n → pieces_of n (x ++ rest) ≡ x ∷ pieces_of n rest
@@ -67,6 +66,16 @@ payload_back trailer =
     ap payload_of (sectors_cons trailer x rest size)
     ∙ ap (λ (l : List ℕ). l ++ payload_of (sectors_in (carrying trailer rest))) (take_at x (trailer_bytes trailer) 504 size)
     ∙ ap (λ (l : List ℕ). x ++ l) so_far)
+
+-- they are its pieces, each with the trailer behind it
+pub row_back : (trailer : Trailer) (m : ℕ) (payload : List ℕ) → length payload ≡ 504 * m
+    → sectors_in (carrying trailer payload) ≡ map (λ piece. piece ++ trailer_bytes trailer) (pieces_of 504 payload)
+row_back trailer =
+    by_pieces (λ (payload : List ℕ). sectors_in (carrying trailer payload) ≡ map (λ piece. piece ++ trailer_bytes trailer) (pieces_of 504 payload))
+    (ap sectors_in (carrying_none trailer))
+    (λ x rest size so_far.
+    sectors_cons trailer x rest size ∙ ap (λ (l : List (List ℕ)). (x ++ trailer_bytes trailer) ∷ l) so_far
+    ∙ sym (ap (λ (l : List (List ℕ)). map (λ piece. piece ++ trailer_bytes trailer) l) (pieces_cons 504 x rest (omega arith) size)))
 
 -- they are as many as its pieces
 pub carrying_size : (trailer : Trailer) (m : ℕ) (payload : List ℕ) → length payload ≡ 504 * m → 504 * length (carrying trailer payload) ≡ 512 * length payload

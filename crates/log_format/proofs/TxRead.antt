@@ -6,12 +6,9 @@ use Rattle.lufs_base.specs.Layout.{IsGeometry}
 use Rattle.lufs_base.specs.declared.geometry.Geometry.{Geometry}
 use Rattle.lufs_base.specs.declared.delta.Delta.{Delta}
 use Rattle.volume_model.specs.declared.log.Trailer.{Trailer}
-use Rattle.volume_model.specs.Image.{sectors_in}
-use Rattle.volume_model.specs.Log.{belongs_to, payload_of}
-use Rattle.volume_model.specs.LogRecord.{delta_bytes}
-use Rattle.volume_model.specs.LogRun.{Whole, run_of, run_behind}
-use Rattle.volume_model.specs.LogTx.{AreLoggable, tx_sectors, delta_record, commit_record, records_of, tx_payload, tx_bytes}
-use Rattle.log_format.proofs.SectorsBack.{payload_back, carrying_size, trailers_back}
+use Rattle.volume_model.specs.Format.{sectors_in}
+use Rattle.volume_model.specs.Log.{belongs_to, payload_of, delta_bytes, Whole, run_of, run_behind, AreLoggable, tx_sectors, delta_record, commit_record, records_of, tx_payload, tx_row, tx_bytes}
+use Rattle.log_format.proofs.SectorsBack.{payload_back, row_back, carrying_size, trailers_back}
 use Rattle.log_format.proofs.RunRead.{run_rest}
 use Rattle.log_format.proofs.TxRecords.{length-records_of}
 use Rattle.log_format.proofs.TxSize.{few_deltas, records_size}
@@ -49,3 +46,7 @@ tx_trailers g deltas tid ident are tid_low ident_low =
 pub tx_size : (g : Geometry) (deltas : List Delta) (tid ident : ℕ) → AreLoggable g deltas → length (tx_bytes deltas tid ident) ≡ 512 * tx_sectors deltas
 tx_size g deltas tid ident are =
     omega (arith, payload_long g deltas tid are, carrying_size (record { tid = tid; ident = ident }) (tx_sectors deltas) (tx_payload deltas tid) (payload_long g deltas tid are))
+
+pub tx_one_by_one : (g : Geometry) (deltas : List Delta) (tid ident : ℕ) → AreLoggable g deltas → sectors_in (tx_bytes deltas tid ident) ≡ tx_row deltas tid ident
+tx_one_by_one g deltas tid ident are =
+    row_back (record { tid = tid; ident = ident }) (tx_sectors deltas) (tx_payload deltas tid) (payload_long g deltas tid are)

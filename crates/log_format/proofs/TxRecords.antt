@@ -5,7 +5,7 @@ use Rattle.std.proofs.lemmas.List.{take_more, flat_map_more}
 use Rattle.std.proofs.lemmas.List.Folds.{length-flat_map-take}
 use Rattle.lufs_base.specs.Fields.{put_at}
 use Rattle.lufs_base.specs.declared.delta.Delta.{Delta}
-use Rattle.volume_model.specs.LogTx.{delta_record, commit_record, records_of}
+use Rattle.volume_model.specs.Log.{delta_record, commit_record, records_of}
 use Rattle.log_format.proofs.Placed.{take-put_at}
 
 -- there is room for the record of the next delta

@@ -11,8 +11,7 @@ use Rattle.lufs_base.specs.declared.geometry.Geometry.{Geometry}
 use Rattle.lufs_base.specs.declared.delta.Delta.{Delta}
 use Rattle.lufs_base.specs.declared.delta.DeltaKind.{DeltaKind}
 use Rattle.lufs_base.specs.declared.delta.DeltaKind.TheVariants.{Group, Inode, Chunk, Pointers, Zero, LinkText, Cancel}
-use Rattle.volume_model.specs.LogRecord.{logged_len, delta_bytes, is_zero_block, is_part_of_block, may_be_logged, may_precede}
-use Rattle.volume_model.specs.LogTx.{AreLoggable, tx_sectors, delta_record, records_of, tx_payload}
+use Rattle.volume_model.specs.Log.{logged_len, delta_bytes, is_zero_block, is_part_of_block, may_be_logged, may_precede, AreLoggable, tx_sectors, delta_record, records_of, tx_payload}
 use Rattle.log_format.proofs.Order.{rises_of}
 use Rattle.log_format.proofs.TxRecords.{length-records_of}
 

@@ -10,9 +10,7 @@ use Rattle.lufs_base.specs.Fields.{u32_at}
 use Rattle.lufs_base.specs.declared.geometry.Geometry.{Geometry}
 use Rattle.lufs_base.specs.declared.delta.Delta.{Delta}
 use Rattle.lufs_base.specs.declared.delta.DeltaKind.{DeltaKind}
-use Rattle.volume_model.specs.LogRecord.{kind_of, logged_len, may_be_logged, may_precede}
-use Rattle.volume_model.specs.LogRun.{Run, Whole, Front, Logged, Commit, Cut, Wrong, front_delta, is_commit, is_delta, front_of_kind, front_of, run_at, run_of, run_behind}
-use Rattle.volume_model.specs.LogTx.{AreLoggable}
+use Rattle.volume_model.specs.Log.{kind_of, logged_len, may_be_logged, may_precede, Run, Whole, Front, Logged, Commit, Cut, Wrong, front_delta, is_commit, is_delta, front_of_kind, front_of, run_at, run_of, run_behind, AreLoggable}
 
 -- what is known of a delta at the front
 record Follows (g : Geometry) (before : List Delta) (d : Delta) : Type 0 where

@@ -3,8 +3,7 @@ use Rattle.std.specs.Prelude.{◌≡◌, ℕ, ◌+◌, ◌≤◌, List, Result, 
 use Rattle.std.specs.List.{list_all}
 use Rattle.lufs_base.specs.declared.geometry.Geometry.{Geometry}
 use Rattle.lufs_base.specs.declared.delta.Delta.{Delta}
-use Rattle.volume_model.specs.LogRecord.{logged_len, may_precede}
-use Rattle.volume_model.specs.LogRun.{Run, Short as short_run, Bad as bad_run, Whole as whole_run, Front as RecordFront, Logged as delta_front, Commit as commit_front, Cut as cut_front, Wrong as wrong_front}
+use Rattle.volume_model.specs.Log.{logged_len, may_precede, Run, Short as short_run, Bad as bad_run, Whole as whole_run, Front as RecordFront, Logged as delta_front, Commit as commit_front, Cut as cut_front, Wrong as wrong_front}
 use Rattle.log_format.specs.InOrder.{MayBeLogged}
 use Rattle.log_format.specs.declared.records.Front.{Front}
 use Rattle.log_format.specs.declared.records.Front.TheVariants.{Logged, Commit, Cut, Wrong}

@@ -4,7 +4,7 @@ use Rattle.std.specs.List.{list_all, slice_get}
 use Rattle.lufs_base.specs.declared.geometry.Geometry.{Geometry}
 use Rattle.lufs_base.specs.declared.delta.Delta.{Delta}
 use Rattle.lufs_base.specs.declared.delta.DeltaKind.{DeltaKind}
-use Rattle.volume_model.specs.LogRecord.{may_be_logged, may_precede}
+use Rattle.volume_model.specs.Log.{may_be_logged, may_precede}
 
 abbrev pub last_of : List Delta → Option Delta
 last_of deltas = slice_get deltas (length deltas - 1)

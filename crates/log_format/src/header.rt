@@ -4,7 +4,7 @@ ghost use Rattle.lufs_base.specs.Fields.{AreBytes};
 ghost use Rattle.lufs_base.specs.Layout.{IsGeometry, ring_of};
 ghost use Rattle.lufs_base.specs.declared.geometry.Geometry.{Geometry};
 ghost use Rattle.volume_model.specs.declared.log.Header.{Header};
-ghost use Rattle.volume_model.specs.LogHeader.{header_of, header_bytes, MayBeHeader};
+ghost use Rattle.volume_model.specs.Log.{header_of, header_bytes, MayBeHeader};
 
 use crate::Header;
 use lufs_base::{Geometry, are_zeros, clear, get_u32, put_u32};

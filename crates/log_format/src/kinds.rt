@@ -1,5 +1,5 @@
 ghost use Rattle.std.specs.Prelude.{◌≡◌};
-ghost use Rattle.volume_model.specs.LogRecord.{type_of, kind_of, logged_len};
+ghost use Rattle.volume_model.specs.Log.{type_of, kind_of, logged_len};
 
 use lufs_base::DeltaKind;
 

@@ -14,11 +14,5 @@ pub use trailer::{read_trailer, write_trailer};
 pub use transaction::{tx_read_back, write_tx};
 pub use volume_model::{Header, Trailer, Tx, TxList};
 
-/// The bytes of a sector.
-const SECTOR: usize = 512;
-
-/// The bytes of a log sector before its trailer.
-const PAYLOAD: usize = 504;
-
 #[cfg(test)]
 mod tests;

@@ -1,22 +1,18 @@
 ghost use Rattle.std.specs.Prelude.{◌≡◌, ◌<◌, ◌≤◌, ℕ, List, length, IfOk};
 ghost use Rattle.lufs_base.specs.Layout.{IsGeometry};
-ghost use Rattle.volume_model.specs.LogRecord.{is_home_of, is_part_of_block, may_be_logged, is_zero_block, is_cancel, may_precede};
+ghost use Rattle.volume_model.specs.Log.{is_home_of, is_part_of_block, may_be_logged, is_zero_block, is_cancel, may_precede, Whole, is_commit, front_of, run_of, AreLoggable};
 ghost use Rattle.lufs_base.specs.declared.delta.Delta.{Delta};
 ghost use Rattle.lufs_base.specs.declared.geometry.Geometry.{Geometry};
-ghost use Rattle.volume_model.specs.LogRun.{Whole, is_commit, front_of, run_of};
-ghost use Rattle.volume_model.specs.LogTx.{AreLoggable};
 ghost use Rattle.log_format.specs.declared.records.RunError.TheVariants.{Mem};
 ghost use Rattle.log_format.specs.InOrder.{InOrder, last_of, may_stand_behind};
 ghost use Rattle.log_format.specs.Answers.{IsFront, LoggedIsNext, IsRun};
 
 use crate::kinds::{COMMIT, HEAD, kind_of, logged_len};
 use lufs_base::{
-    BlockNo, Bytes, Delta, DeltaKind, DeltaList, Geometry, Mem, Region, are_zeros, get_u32, get_u64,
+    BLOCK, BlockNo, Bytes, Delta, DeltaKind, DeltaList, Geometry, Mem, Region, are_zeros, get_u32,
+    get_u64,
 };
 use std::alloc::Global;
-
-/// The bytes of a block.
-const BLOCK: u64 = 4096;
 
 /// What the payload of a run is.
 #[derive(Debug, Drop)]
@@ -83,16 +79,16 @@ fn is_part_of_block(kind: DeltaKind, place: u32, len: u32) -> bool
 }
 
 // Whether a delta of this kind may have this home and this length.
-#[tactic(auto, unfolding(volume_model::specs::LogRecord::may_be_logged))]
+#[tactic(auto, unfolding(volume_model::specs::Log::LogRecord::may_be_logged))]
 fn may_be_logged(g: &Geometry, kind: DeltaKind, home: u64, len: u32) -> bool
     requires { IsGeometry g.now }
     ensures { result ≡ may_be_logged g.now kind home len }
 {
-    if home / BLOCK >= u64::from(g.total()) {
+    if home / BLOCK as u64 >= u64::from(g.total()) {
         return false;
     }
-    let region = g.region(BlockNo((home / BLOCK) as u32));
-    is_home_of(kind, region) && is_part_of_block(kind, (home % BLOCK) as u32, len)
+    let region = g.region(BlockNo((home / BLOCK as u64) as u32));
+    is_home_of(kind, region) && is_part_of_block(kind, (home % BLOCK as u64) as u32, len)
 }
 
 fn is_zero_block(kind: DeltaKind) -> bool
@@ -108,7 +104,7 @@ fn is_cancel(kind: DeltaKind) -> bool
 }
 
 // Whether a delta may stand before another of this kind and home.
-#[tactic(auto, unfolding(volume_model::specs::LogRecord::may_precede))]
+#[tactic(auto, unfolding(volume_model::specs::Log::LogRecord::may_precede))]
 fn may_precede(d: &Delta, kind: DeltaKind, home: u64) -> bool
     ensures { result ≡ may_precede d.now kind home }
 {
@@ -121,7 +117,7 @@ fn may_precede(d: &Delta, kind: DeltaKind, home: u64) -> bool
     if d.kind.has_bytes() && kind.has_bytes() && u64::from(d.len) > home - d.home {
         return false;
     }
-    !(is_cancel(d.kind) || is_cancel(kind)) || d.home / BLOCK != home / BLOCK
+    !(is_cancel(d.kind) || is_cancel(kind)) || d.home / BLOCK as u64 != home / BLOCK as u64
 }
 
 // Whether the bytes are the commit record behind these deltas, with nothing but zeros behind it up to
@@ -148,7 +144,7 @@ fn may_stand_behind_last(before: &[Delta], kind: DeltaKind, home: u64) -> bool
 
 // What stands at the front of the bytes, behind these deltas of the transaction. Only the last of them
 // is looked at, since what may stand behind it may stand behind each.
-#[tactic(auto, unfolding(volume_model::specs::LogRun::front_of))]
+#[tactic(auto, unfolding(volume_model::specs::Log::LogRun::front_of))]
 fn read_front(
     alloc: Global,
     g: &Geometry,

@@ -1,5 +1,5 @@
 ghost use Rattle.std.specs.Prelude.{◌≡◌, ◌≤◌, ◌*◌, length};
-ghost use Rattle.volume_model.specs.LogRecord.{delta_bytes};
+ghost use Rattle.volume_model.specs.Log.{delta_bytes};
 
 use crate::{
     Header, Run, RunError, Trailer, read_header, read_run, read_trailer, write_header,

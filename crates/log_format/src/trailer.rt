@@ -1,8 +1,8 @@
 ghost use Rattle.std.specs.Prelude.{◌≡◌, ◌++◌, length, take};
-ghost use Rattle.volume_model.specs.LogTrailer.{trailer_of, trailer_bytes};
+ghost use Rattle.volume_model.specs.Log.{trailer_of, trailer_bytes};
 
-use crate::{PAYLOAD, Trailer};
-use lufs_base::{get_u32, put_u32};
+use crate::Trailer;
+use lufs_base::{PAYLOAD, get_u32, put_u32};
 
 /// The trailer of a log sector of 512 bytes (`docs/FORMAT.md`, "Log sectors").
 pub fn read_trailer(sector: &[u8]) -> Trailer

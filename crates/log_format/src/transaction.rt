@@ -4,15 +4,12 @@ ghost use Rattle.lufs_base.specs.Fields.{put_at};
 ghost use Rattle.lufs_base.specs.Layout.{IsGeometry};
 ghost use Rattle.lufs_base.specs.declared.geometry.Geometry.{Geometry};
 ghost use Rattle.lufs_base.specs.declared.delta.Delta.{Delta};
-ghost use Rattle.volume_model.specs.Image.{sectors_in};
-ghost use Rattle.volume_model.specs.Log.{belongs_to, payload_of};
-ghost use Rattle.volume_model.specs.LogRun.{Whole, run_of};
-ghost use Rattle.volume_model.specs.LogTrailer.{trailer_bytes};
-ghost use Rattle.volume_model.specs.LogTx.{AreLoggable, tx_sectors, record_head, delta_record, records_of, carrying, tx_bytes};
+ghost use Rattle.volume_model.specs.Format.{sectors_in};
+ghost use Rattle.volume_model.specs.Log.{belongs_to, payload_of, Whole, run_of, trailer_bytes, AreLoggable, tx_sectors, record_head, delta_record, records_of, carrying, tx_row, tx_bytes};
 
 use crate::kinds::{COMMIT, HEAD, type_of};
-use crate::{PAYLOAD, SECTOR, Trailer, write_trailer};
-use lufs_base::{Delta, DeltaList, clear, put_u32, put_u64};
+use crate::{Trailer, write_trailer};
+use lufs_base::{Delta, DeltaList, PAYLOAD, SECTOR, clear, put_u32, put_u64};
 
 // Writes the head of a record to the 16 bytes from byte `at`. The other bytes stay.
 fn put_head(out: &mut [u8], at: usize, home: u64, len: u32, record_type: u32)
@@ -108,6 +105,8 @@ pub fn tx_read_back()
         → run_of g tid (payload_of (sectors_in (tx_bytes deltas tid ident))) ≡ Whole deltas }
     ensures trailers { (g : Geometry) (deltas : List Delta) (tid ident : ℕ) → AreLoggable g deltas → tid < 2 ^ 32 → ident < 2 ^ 32
         → All (λ s. belongs_to ident tid s ≡ true) (sectors_in (tx_bytes deltas tid ident)) }
+    ensures row { (g : Geometry) (deltas : List Delta) (tid ident : ℕ) → AreLoggable g deltas
+        → sectors_in (tx_bytes deltas tid ident) ≡ tx_row deltas tid ident }
     ensures size { (g : Geometry) (deltas : List Delta) (tid ident : ℕ) → AreLoggable g deltas
         → length (tx_bytes deltas tid ident) ≡ 512 * tx_sectors deltas }
 {}

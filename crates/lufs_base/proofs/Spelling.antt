@@ -1,5 +1,5 @@
 -- A number and its bytes determine each other.
-use Rattle.std.proofs.Common.{◌≡◌, ℕ, zero, suc, ◌+◌, ◌^◌, ◌/◌, ◌<◌, ◌≤◌, List, [], ◌++◌, length, take, drop, slice_index, ◌∙◌, ap, sym, arith, get_or-take, take_all}
+use Rattle.std.proofs.Common.{◌≡◌, ℕ, zero, suc, ◌+◌, ◌*◌, ◌^◌, ◌/◌, ◌<◌, ◌≤◌, List, [], ◌++◌, length, take, drop, slice_index, ◌∙◌, ap, sym, arith, refl, get_or-take, take_all}
 use Rattle.std.proofs.lemmas.List.{ext_get_or, length-take-le, append-nil, take-append-drop}
 use Rattle.std.proofs.lemmas.Nat.{same_from_place}
 use Rattle.std.proofs.Math.Nat.{mod-lt}
@@ -59,3 +59,18 @@ spelled_again_of n bytes are fits =
     let front = one_spelling_of n bytes (field_bytes n value) are (field_is_bytes n value) fits (omega (arith, long)) (sym reads) in
     let whole : take n (field_bytes n value) ≡ field_bytes n value = take_all n (field_bytes n value) (omega (arith, long)) in
     ap (λ (l : List ℕ). l ++ drop n bytes) (sym (front ∙ whole)) ∙ take-append-drop n bytes
+
+-- numbers of the same bytes, from byte i on
+from_bytes : (i n : ℕ) (xs ys : List ℕ) → ((k : ℕ) → k < i + n → slice_index xs k ≡ slice_index ys k) → big_from i n xs ≡ big_from i n ys
+from_bytes i zero xs ys same = refl
+from_bytes i (suc n) xs ys same =
+    let here : slice_index xs i ≡ slice_index ys i = same i (omega arith) in
+    let rest : big_from (suc i) n xs ≡ big_from (suc i) n ys = from_bytes (suc i) n xs ys (λ k below. same k (omega (arith, below))) in
+    λ t. here t * 256 ^ n + rest t
+
+pub number_in_same : (n : ℕ) (xs ys : List ℕ) → take n xs ≡ take n ys → number_in n xs ≡ number_in n ys
+unfolding number_in
+number_in_same n xs ys same =
+    from_bytes 0 n xs ys (λ k below.
+    let inside : k < n = omega (arith, below) in
+    sym (get_or-take n xs k 0 inside) ∙ ap (λ (l : List ℕ). slice_index l k) same ∙ get_or-take n ys k 0 inside)

@@ -1,5 +1,5 @@
 -- Counts of failures, which show that an answer of a failure had its cause.
-use Rattle.std.specs.Prelude.{◌≤◌, ℕ, ◌+◌, ◌-◌, ◌^◌, min, Result, OnErr}
+use Rattle.std.specs.Prelude.{◌≤◌, ℕ, ◌+◌, ◌-◌, ◌^◌, min}
 
 -- a count with one more, which stands still at the last number of 64 bits
 abbrev pub counted : ℕ → ℕ
@@ -8,8 +8,3 @@ counted n = min (n + 1) (2 ^ 64 - 1)
 -- the count rose, or it stands at its last number
 abbrev pub Rose : ℕ → ℕ → Type 0
 Rose before now = counted before ≤ now
-
--- an error is answered only where the count rose, and the count never falls
-pub record HasCause {T E : Type 0} (before now : ℕ) (result : Result T E) : Type 0 where
-  pub later : before ≤ now
-  pub failed : OnErr result (Rose before now)

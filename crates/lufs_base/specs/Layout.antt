@@ -1,8 +1,22 @@
 -- Where the parts of a volume lie.
-use Rattle.std.specs.Prelude.{◌≡◌, ◌<◌, ◌≤◌, ℕ, ◌+◌, ◌-◌, ◌*◌, ◌/◌, ◌%◌, ◌==◌, nat_lt, nat_le, if◌then◌else◌}
+use Rattle.std.specs.Prelude.{◌≡◌, ◌<◌, ◌≤◌, ℕ, ◌+◌, ◌-◌, ◌*◌, ◌/◌, ◌%◌, ◌==◌, nat_lt, nat_le, Bool, ◌&&◌, if◌then◌else◌}
 use Rattle.lufs_base.specs.declared.geometry.Geometry.{Geometry}
 use Rattle.lufs_base.specs.declared.geometry.Region.{Region}
 use Rattle.lufs_base.specs.declared.geometry.Region.TheVariants.{Boot, Super, Log, GroupBlock, Inodes, Body}
+
+-- the bytes of a sector, of a block, and of a log sector before its trailer
+abbrev pub sector_size : ℕ
+sector_size = 512
+
+abbrev pub block_size : ℕ
+block_size = 4096
+
+abbrev pub payload_size : ℕ
+payload_size = 504
+
+-- a number from `low` to `high` that is a multiple of a step
+abbrev pub is_step : (low high step : ℕ) → ℕ → Bool
+is_step low high step n = nat_le low n && nat_le n high && n % step == 0
 
 -- the numbers are in their ranges
 pub record IsGeometry (g : Geometry) : Type 0 where
@@ -32,6 +46,16 @@ blocks_of g = group_start g g.groups
 -- the sectors of the ring
 abbrev pub ring_of : Geometry → ℕ
 ring_of g = g.log - 1
+
+-- the sector of the superblock, that of the log's header, and that of a place of the ring
+abbrev pub superblock_sector : ℕ
+superblock_sector = 16
+
+abbrev pub header_sector : Geometry → ℕ
+header_sector g = 24
+
+abbrev pub ring_place : Geometry → ℕ → ℕ
+ring_place g place = 25 + place
 
 -- the bytes of deltas that a changing call reserves
 abbrev pub need_of : Geometry → ℕ

@@ -83,3 +83,8 @@ pub fn read_back()
 pub fn spelled_again()
     ensures { (n : ℕ) (bytes : List ℕ) → AreBytes bytes → n ≤ length bytes → field_bytes n (number_in n bytes) ++ drop n bytes ≡ bytes }
 {}
+
+/// A number of n bytes depends on its n bytes alone.
+pub fn its_bytes_alone()
+    ensures { (n : ℕ) (xs ys : List ℕ) → take n xs ≡ take n ys → number_in n xs ≡ number_in n ys }
+{}

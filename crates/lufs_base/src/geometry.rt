@@ -1,9 +1,29 @@
 ghost use Rattle.std.specs.Prelude.{◌≡◌, ℕ, ◌<◌, ◌*◌};
 ghost use Rattle.lufs_base.specs.declared.geometry.Geometry.{Geometry};
 ghost use Rattle.lufs_base.specs.declared.geometry.Region.{Region};
-ghost use Rattle.lufs_base.specs.Layout.{IsGeometry, blocks_of, ring_of, need_of, group_start, inode_address, region_of, InRegion};
+ghost use Rattle.lufs_base.specs.Layout.{is_step, IsGeometry, blocks_of, ring_of, header_sector, ring_place, need_of, group_start, inode_address, region_of, InRegion};
 
 use crate::{BlockNo, Ino};
+
+/// The bytes of a sector.
+pub const SECTOR: usize = 512;
+
+/// The bytes of a block.
+pub const BLOCK: usize = 4096;
+
+/// The bytes of a log sector before its trailer.
+pub const PAYLOAD: usize = 504;
+
+/// The sector of the superblock.
+pub const SUPERBLOCK_SECTOR: u64 = 16;
+
+/// Whether a number is from `low` to `high` and a multiple of `step`.
+pub fn is_step(low: u64, high: u64, step: u64, n: u64) -> bool
+    requires { 0 < step }
+    ensures { result ≡ is_step low high step n }
+{
+    low <= n && n <= high && n % step == 0
+}
 
 /// The numbers that a volume is laid out by (`docs/FORMAT.md`, "Layout").
 #[derive(Clone, Copy, Debug, PartialEq, Eq, Hash)]
@@ -45,6 +65,22 @@ impl Geometry {
         ensures { result ≡ ring_of self.now }
     {
         self.log - 1
+    }
+
+    /// The sector of the log's header.
+    pub fn header_sector(&self) -> u64
+        ensures { result ≡ header_sector self.now }
+    {
+        24
+    }
+
+    /// The sector of this place of the ring.
+    pub fn ring_place(&self, place: u32) -> u64
+        requires geometry { IsGeometry self.now }
+        requires place { place < ring_of self.now }
+        ensures { result ≡ ring_place self.now place }
+    {
+        self.header_sector() + 1 + u64::from(place)
     }
 
     /// Bytes of deltas that a changing call reserves.

@@ -13,10 +13,12 @@ mod wants;
 pub use bytes::Bytes;
 pub use delta::{Delta, DeltaKind, DeltaList};
 pub use fields::{
-    are_zeros, clear, get_u16, get_u32, get_u64, one_spelling, put_u16, put_u32, put_u64,
-    read_back, spelled_again,
+    are_zeros, clear, get_u16, get_u32, get_u64, its_bytes_alone, one_spelling, put_u16, put_u32,
+    put_u64, read_back, spelled_again,
 };
-pub use geometry::{Geometry, Region, its_region, one_region};
+pub use geometry::{
+    BLOCK, Geometry, PAYLOAD, Region, SECTOR, SUPERBLOCK_SECTOR, is_step, its_region, one_region,
+};
 pub use name::{Name, is_name};
 pub use numbers::{BlockNo, Epoch, Ino, Tid};
 pub use wants::{DiskFault, Mem};

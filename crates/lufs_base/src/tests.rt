@@ -3,7 +3,7 @@ ghost use Rattle.lufs_base.specs.Layout.{IsGeometry};
 
 use crate::{
     BlockNo, Bytes, Delta, DeltaKind, DeltaList, Geometry, Ino, Name, Region, get_u16, get_u32,
-    get_u64, put_u16, put_u32, put_u64,
+    get_u64, is_step, put_u16, put_u32, put_u64,
 };
 use std::test::Fail;
 
@@ -104,11 +104,28 @@ fn numbers_at_both_ends(rt: HostRuntime) {
 }
 
 #[test]
+fn stepped_ranges(rt: HostRuntime) {
+    for (n, want) in [
+        (64, true),
+        (72, true),
+        (2048, true),
+        (56, false),
+        (65, false),
+        (2056, false),
+    ] {
+        assert_eq!(rt; is_step(64, 2048, 8, n), want, "{n}");
+    }
+}
+
+#[test]
 fn smallest_volume(rt: HostRuntime) {
     let geometry = SMALLEST;
     for (what, number, want) in [
         ("blocks", u64::from(geometry.total()), 99),
         ("ring", u64::from(geometry.ring()), 255),
+        ("header", geometry.header_sector(), 24),
+        ("first place", geometry.ring_place(0), 25),
+        ("last place", geometry.ring_place(254), 279),
         ("need", u64::from(geometry.need()), 8432),
         ("group", u64::from(geometry.group_block(0).0), 35),
         ("root", geometry.inode_place(Ino(2)), 0x24100),

@@ -7,7 +7,7 @@ use Rattle.lufs_base.specs.Layout.{IsGeometry, blocks_of}
 use Rattle.lufs_base.specs.declared.geometry.Geometry.{Geometry}
 use Rattle.lufs_base.proofs.Spelling.{read_back_of}
 use Rattle.volume_model.proofs.Pieces.{field_again, zeros_again}
-use Rattle.volume_model.specs.Superblock.{is_geometry, named_geometry, super_of, super_bytes}
+use Rattle.volume_model.specs.Format.{is_geometry, named_geometry, super_of, super_bytes}
 use Rattle.ufs_super.proofs.SuperblockTests.{a_super, is_super_of}
 
 -- the fields from one on, and the zeros behind them

@@ -4,7 +4,7 @@ use Rattle.std.proofs.lemmas.Bool.{cases_Bool, cond-true, cond-false, and_parts,
 use Rattle.lufs_base.specs.Fields.{u32_at, are_zeros}
 use Rattle.lufs_base.specs.Layout.{blocks_of}
 use Rattle.lufs_base.specs.declared.geometry.Geometry.{Geometry}
-use Rattle.volume_model.specs.Superblock.{is_geometry, named_geometry, is_super, super_of}
+use Rattle.volume_model.specs.Format.{is_geometry, named_geometry, is_super, super_of}
 use Rattle.lufs_base.proofs.TestedValue.{refused, given}
 
 pub record IsSuper (s : List ℕ) (sectors : ℕ) : Type 0 where

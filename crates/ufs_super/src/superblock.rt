@@ -1,11 +1,11 @@
 ghost use Rattle.std.specs.Prelude.{◌≡◌, ◌<◌, ◌≤◌, ◌*◌, ℕ, List, Some, length, IfOk, IsTrue};
 ghost use Rattle.std.specs.Result.{result_ok};
 ghost use Rattle.lufs_base.specs.Fields.{AreBytes};
-ghost use Rattle.lufs_base.specs.Layout.{IsGeometry, blocks_of};
+ghost use Rattle.lufs_base.specs.Layout.{is_step, IsGeometry, blocks_of};
 ghost use Rattle.lufs_base.specs.declared.geometry.Geometry.{Geometry};
-ghost use Rattle.volume_model.specs.Superblock.{super_of, super_bytes, is_geometry, is_step};
+ghost use Rattle.volume_model.specs.Format.{super_of, super_bytes, is_geometry};
 
-use lufs_base::{Geometry, are_zeros, clear, get_u32, put_u32};
+use lufs_base::{Geometry, are_zeros, clear, get_u32, is_step, put_u32};
 
 /// The first four bytes of a superblock, as in UFS.
 const MAGIC: u32 = 0x0001_1954;
@@ -14,23 +14,16 @@ const MAGIC: u32 = 0x0001_1954;
 #[derive(Clone, Copy, Debug, PartialEq, Eq)]
 pub struct NotVolume;
 
-fn is_step(low: u32, high: u32, step: u32, n: u32) -> bool
-    requires { 0 < step }
-    ensures { result ≡ is_step low high step n }
-{
-    low <= n && n <= high && n % step == 0
-}
-
 // Whether each number is in its range.
 fn is_geometry(g: &Geometry) -> bool
     ensures test { result ≡ is_geometry g.now }
     ensures range { IsTrue result → IsGeometry g.now }
 {
     g.version == 1
-        && is_step(1, 64, 1, g.groups)
-        && is_step(64, 2048, 8, g.bpg)
-        && is_step(32, 1024, 32, g.ipg)
-        && is_step(256, 65536, 8, g.log)
+        && is_step(1, 64, 1, u64::from(g.groups))
+        && is_step(64, 2048, 8, u64::from(g.bpg))
+        && is_step(32, 1024, 32, u64::from(g.ipg))
+        && is_step(256, 65_536, 8, u64::from(g.log))
         && 2 + g.ipg / 32 <= g.bpg
 }
 

@@ -5,8 +5,8 @@ use Rattle.std.proofs.lemmas.List.Folds.{list_any-append}
 use Rattle.std.proofs.Math.Bool.{or-true, or-false}
 use Rattle.volume_model.specs.declared.device_call.DeviceCall.{DeviceCall}
 use Rattle.volume_model.specs.declared.device_call.DeviceCall.TheVariants.{Write, Flush}
-use Rattle.volume_model.specs.Image.{Image, overwritten}
-use Rattle.volume_model.specs.Outcome.{image_after, is_flush, flushed, pending}
+use Rattle.volume_model.specs.Format.{Image, overwritten}
+use Rattle.volume_model.specs.Crash.{image_after, is_flush, flushed, pending}
 
 pub image_after-append : (image : Image) (xs ys : List DeviceCall) → image_after image (xs ++ ys) ≡ image_after (image_after image xs) ys
 image_after-append image [] ys = refl

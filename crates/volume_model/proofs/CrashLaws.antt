@@ -9,9 +9,8 @@ use Rattle.std.proofs.lemmas.List.{append-nil, take_all, take-append-le, length_
 use Rattle.std.proofs.lemmas.List.Elements.{filter_map-append, Contains-append_left, Contains-append_right, Contains-append_cases, Contains-push, Contains-push_cases}
 use Rattle.volume_model.specs.declared.device_call.DeviceCall.{DeviceCall}
 use Rattle.volume_model.specs.declared.device_call.DeviceCall.TheVariants.{Write, Flush}
-use Rattle.volume_model.specs.Image.{Image, sector}
-use Rattle.volume_model.specs.Record.{Record, with_call, with_calls, up_to, IsInside, IsOfSectors}
-use Rattle.volume_model.specs.Outcome.{image_after, present_of, flushed, pending, IsSettled, record_from, written_by, written_to, kept_at, Outcome, IsPartlyWritten}
+use Rattle.volume_model.specs.Format.{Image, sector}
+use Rattle.volume_model.specs.Crash.{Record, with_call, with_calls, up_to, IsInside, IsOfSectors, image_after, present_of, flushed, pending, IsSettled, record_from, written_by, written_to, kept_at, Outcome, IsPartlyWritten}
 use Rattle.volume_model.proofs.Sectors.{same_sectors, sector_past, length-sector, length-sectors, sector_of_sectors}
 use Rattle.volume_model.proofs.Calls.{image_after-append, flushed-pending, has_flush, pending_all, flushed_none, pending_renewed, flushed_renewed, pending_longer, flushed_same}
 use Rattle.volume_model.proofs.Outcomes.{AllInside, inside_front, inside_left, inside_right, length-image_after, sector_after_write, sector_after, last_cases}
@@ -203,14 +202,13 @@ after_write r first bytes image ok =
           (to_left r (length r.calls) (flushed r.calls) (pending r.calls) h.0 (ap flushed now) (ap pending now) h.1) h.2),
     )
 
--- where nothing is pending the record may begin anew
-pub begins_anew : (r : Record) (n m : ℕ) (image : Image) → IsOfSectors r → IsSettled (up_to r n) → Outcome r (n + m) image ↔ Outcome (record_from r n) m image
-begins_anew r n m image ok settled =
+-- where nothing is pending the record may begin anew, if what stands there has the opening's size
+pub anew_by_size : (r : Record) (n m : ℕ) (image : Image) → length (present_of (up_to r n)) ≡ length r.opening → IsSettled (up_to r n) → Outcome r (n + m) image ↔ Outcome (record_from r n) m image
+anew_by_size r n m image size settled =
     let xs = take n r.calls in
     let ys = take m (drop n r.calls) in
     let whole : flushed xs ≡ xs = sym (append-nil (flushed xs)) ∙ ap (λ (l : List DeviceCall). flushed xs ++ l) (sym settled) ∙ flushed-pending xs in
     let joined = take-add n m r.calls in
-    let size : length (present_of (up_to r n)) ≡ length r.opening = length-image_after r.opening xs (length r.opening) refl (inside_front (length r.opening) n r.calls ok.calls) in
     let parts : (image_after r.opening (flushed (xs ++ ys)) ≡ image_after (image_after r.opening xs) (flushed ys)) × (pending (xs ++ ys) ≡ pending ys) =
     elim (cases_Bool (has_flush ys)) [
       | inl some ↦ (ap (image_after r.opening) (flushed_renewed xs ys some) ∙ image_after-append r.opening xs (flushed ys), pending_renewed xs ys some)
@@ -231,6 +229,10 @@ begins_anew r n m image ok settled =
         each = λ k. subst (λ (i : Image). holds k i (pending (take (n + m) r.calls))) (sym kept) (subst (λ (s : List DeviceCall). holds k (kept_at (record_from r n) m) s) (sym rest) (h.each k));
       },
     )
+
+pub begins_anew : (r : Record) (n m : ℕ) (image : Image) → IsOfSectors r → IsSettled (up_to r n) → Outcome r (n + m) image ↔ Outcome (record_from r n) m image
+begins_anew r n m image ok =
+    anew_by_size r n m image (length-image_after r.opening (take n r.calls) (length r.opening) refl (inside_front (length r.opening) n r.calls ok.calls))
 
 -- a crash after a crash, with no flush between them, is one of both lists of calls
 pub crash_again : (r : Record) (left : Image) (more : List DeviceCall) (m : ℕ) (image : Image) → Outcome r (length r.calls) left → has_flush (take m more) ≡ false

@@ -7,9 +7,8 @@ use Rattle.std.proofs.lemmas.Bool.{cases_Bool, and_parts, and_cases, leb-true, l
 use Rattle.std.proofs.lemmas.List.Elements.{Contains-append_left, Contains-append_right, Contains-push}
 use Rattle.volume_model.specs.declared.device_call.DeviceCall.{DeviceCall}
 use Rattle.volume_model.specs.declared.device_call.DeviceCall.TheVariants.{Write, Flush}
-use Rattle.volume_model.specs.Image.{Image, sector, sectors_of, overwritten}
-use Rattle.volume_model.specs.Record.{IsInside}
-use Rattle.volume_model.specs.Outcome.{image_after, written_by, written_to}
+use Rattle.volume_model.specs.Format.{Image, sector, sectors_of, overwritten}
+use Rattle.volume_model.specs.Crash.{IsInside, image_after, written_by, written_to}
 use Rattle.volume_model.proofs.Sectors.{length-overwritten, sector_before, sector_within, sector_behind}
 
 abbrev pub AllInside : ℕ → List DeviceCall → Type 0

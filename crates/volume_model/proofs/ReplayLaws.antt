@@ -10,9 +10,8 @@ use Rattle.lufs_base.specs.declared.geometry.Geometry.{Geometry}
 use Rattle.lufs_base.specs.declared.delta.Delta.{Delta}
 use Rattle.volume_model.specs.declared.log.Header.{Header}
 use Rattle.volume_model.specs.declared.log.Tx.{Tx}
-use Rattle.volume_model.specs.Image.{Image, sectors_from}
-use Rattle.volume_model.specs.Log.{Behind, Listed, log_of}
-use Rattle.volume_model.specs.Recovered.{cancels, live_deltas, byte_of, given_at, recovered_byte, replayed, recovered_by, recovered, IsElsewhere, IsUntouched}
+use Rattle.volume_model.specs.Format.{Image, sectors_from}
+use Rattle.volume_model.specs.Log.{Behind, Listed, log_of, cancels, live_deltas, byte_of, given_at, recovered_byte, replayed, recovered_by, recovered, IsElsewhere, IsUncovered}
 
 pub length-replayed : (image : Image) (txs : List Tx) → length (replayed image txs) ≡ length image
 unfolding replayed
@@ -47,7 +46,7 @@ none_given b address keeps (d ∷ deltas) low high away =
       | false ↦ rest
     ]
 
-none_live : (b address : ℕ) (txs : List Tx) → 4096 * b ≤ address → address < 4096 * b + 4096 → IsUntouched b txs → filter_map (given_at address) (live_deltas txs) ≡ []
+none_live : (b address : ℕ) (txs : List Tx) → 4096 * b ≤ address → address < 4096 * b + 4096 → IsUncovered b txs → filter_map (given_at address) (live_deltas txs) ≡ []
 none_live b address [] low high away = refl
 none_live b address (tx ∷ later) low high away =
     let keeps : Delta → Bool = λ d. not (list_any (cancels (d.home / 4096)) later) in
@@ -55,7 +54,7 @@ none_live b address (tx ∷ later) low high away =
     ∙ ap (λ (l : List ℕ). l ++ filter_map (given_at address) (live_deltas later)) (none_given b address keeps tx.deltas low high away.0)
     ∙ none_live b address later low high away.1
 
-pub untouched_block : (image : Image) (txs : List Tx) (b : ℕ) → IsUntouched b txs → sectors_from (replayed image txs) (8 * b) 8 ≡ sectors_from image (8 * b) 8
+pub untouched_block : (image : Image) (txs : List Tx) (b : ℕ) → IsUncovered b txs → sectors_from (replayed image txs) (8 * b) 8 ≡ sectors_from image (8 * b) 8
 untouched_block image txs b away =
     let all = replayed image txs in
     let size = length-replayed image txs in

@@ -3,7 +3,7 @@ use Rattle.std.proofs.Common.{◌≡◌, ◌<◌, ◌≤◌, ℕ, zero, suc, ◌
 use Rattle.std.proofs.lemmas.List.{ext_get_or, get_or-take, get_or-drop, length-append, length-drop, length-take-le, take_at, drop-append-le, take-append-le, drop-drop, drop-take, take-take, drop_all}
 use Rattle.std.proofs.Math.Seq.{drop-append-add}
 use Rattle.std.specs.List.{flat_map, range_with_len}
-use Rattle.volume_model.specs.Image.{Image, sector, overwritten}
+use Rattle.volume_model.specs.Format.{Image, sector, overwritten}
 
 -- a byte of a sector
 pub byte_in_sector : (image : Image) (k j : ℕ) → j < 512 → slice_index (sector image k) j ≡ slice_index image (512 * k + j)

@@ -3,7 +3,7 @@ use Rattle.std.proofs.Common.{◌≡◌, ◌<◌, ℕ, ◌+◌, true, List, leng
 use Rattle.std.specs.List.{range_with_len}
 use Rattle.std.proofs.lemmas.List.Sums.{AllPass-from_list_all}
 use Rattle.std.proofs.lemmas.List.FromFn.{length-range_with_len, get_or-range_with_len}
-use Rattle.volume_model.specs.GroupRecord.{bit_at, are_set}
+use Rattle.volume_model.specs.Format.{bit_at, are_set}
 
 -- where the first n bits are set, each of them is
 pub each_set : (bits : List ℕ) (n : ℕ) → are_set bits n ≡ true → (i : ℕ) → i < n → bit_at bits i ≡ true

@@ -2,18 +2,14 @@
 use Rattle.std.specs.Prelude.{◌≡◌, ◌≢◌, ℕ, ◌+◌, ◌-◌, ◌*◌, ◌/◌, ◌^◌, min, ◌==◌, nat_lt, if◌then◌else◌, List, ◌∷◌, length, map, replicate, Option, Some, None, IfSome}
 use Rattle.std.specs.List.{range_with_len}
 use Rattle.lufs_base.specs.Fields.{put_at}
-use Rattle.lufs_base.specs.Layout.{blocks_of, group_start, region_of}
+use Rattle.lufs_base.specs.Layout.{block_size, superblock_sector, blocks_of, group_start, region_of}
 use Rattle.lufs_base.specs.declared.geometry.Geometry.{Geometry}
 use Rattle.lufs_base.specs.declared.geometry.Region.{Region}
 use Rattle.lufs_base.specs.declared.geometry.Region.TheVariants.{Boot, Super, Log, GroupBlock, Inodes, Body}
 use Rattle.volume_model.specs.declared.inode.Dinode.{Dinode}
 use Rattle.volume_model.specs.declared.log.Header.{Header}
-use Rattle.volume_model.specs.Image.{Image, sector, block}
-use Rattle.volume_model.specs.Superblock.{super_bytes}
-use Rattle.volume_model.specs.LogHeader.{header_bytes}
-use Rattle.volume_model.specs.GroupRecord.{GroupRecord, group_bytes}
-use Rattle.volume_model.specs.InodeRecord.{dinode_bytes}
-use Rattle.volume_model.specs.DirectoryChunk.{new_directory, chunk_bytes}
+use Rattle.volume_model.specs.Format.{Image, sector, block, super_bytes, GroupRecord, group_bytes, dinode_bytes, new_directory, chunk_bytes}
+use Rattle.volume_model.specs.Log.{header_bytes}
 
 -- bytes of which the first n bits are set
 abbrev pub first_bits : (n bytes : ℕ) → List ℕ
@@ -60,15 +56,15 @@ made_root g moment = record {
 
 -- a block with these bytes from its byte `at`, and zeros elsewhere
 abbrev pub block_with : ℕ → List ℕ → List ℕ
-block_with at bytes = put_at (replicate 4096 0) at bytes
+block_with at bytes = put_at (replicate block_size 0) at bytes
 
 -- what is made of a block, by what it is for: the record of inode 2 is the third of its block
 abbrev pub made_in : Geometry → ℕ → ℕ → Region → Option (List ℕ)
 made_in g moment b Boot = None
 made_in g moment b Super = None
-made_in g moment b Log = Some (if b == 3 then block_with 0 (header_bytes made_header) else replicate 4096 0)
+made_in g moment b Log = Some (if b == 3 then block_with 0 (header_bytes made_header) else replicate block_size 0)
 made_in g moment b (GroupBlock n) = Some (block_with 0 (group_bytes (made_group g n)))
-made_in g moment b (Inodes n) = Some (if b == group_start g 0 + 1 then block_with 256 (dinode_bytes (Some (made_root g moment))) else replicate 4096 0)
+made_in g moment b (Inodes n) = Some (if b == group_start g 0 + 1 then block_with 256 (dinode_bytes (Some (made_root g moment))) else replicate block_size 0)
 made_in g moment b (Body n) = if b == root_block g then Some (block_with 0 (chunk_bytes (new_directory 2 2))) else None
 
 -- what is made of a block, if anything
@@ -79,6 +75,6 @@ made_block g moment b = if nat_lt b (blocks_of g) then made_in g moment b (regio
 -- besides the superblock's sector, all that no block is made of stays.
 pub record IsMkfsImage (g : Geometry) (moment : ℕ) (old new : Image) : Type 0 where
   pub size : length new ≡ length old
-  pub superblock : sector new 16 ≡ super_bytes g
+  pub superblock : sector new superblock_sector ≡ super_bytes g
   pub made : (b : ℕ) → IfSome (made_block g moment b) (λ bytes. block new b ≡ bytes)
-  pub kept : (k : ℕ) → k ≢ 16 → made_block g moment (k / 8) ≡ None → sector new k ≡ sector old k
+  pub kept : (k : ℕ) → k ≢ superblock_sector → made_block g moment (k / 8) ≡ None → sector new k ≡ sector old k

@@ -1,91 +1,36 @@
--- What sound means: the rules in the order in which they are looked at, and the first that is broken.
-use Rattle.std.specs.Prelude.{◌≡◌, ℕ, ◌-◌, Bool, List, [], ◌∷◌, length, find, Option, Some, None, is_some, option_map}
-use Rattle.std.specs.List.{count_by, range_with_len}
-use Rattle.std.specs.Option.{option_or}
-use Rattle.lufs_base.specs.Layout.{blocks_of}
-use Rattle.lufs_base.specs.declared.geometry.Geometry.{Geometry}
-use Rattle.volume_model.specs.declared.finding.Kind.{Kind}
-use Rattle.volume_model.specs.declared.finding.Kind.TheVariants.{Group, Inode, Fields, Root, Twice, Chunk, Name, Parent, Links, InodeBit, BlockBit, Count}
-use Rattle.volume_model.specs.declared.finding.Counts.{Counts}
-use Rattle.volume_model.specs.declared.finding.Verdict.{Verdict}
-use Rattle.volume_model.specs.declared.finding.Verdict.TheVariants.{Clean, Finding}
-use Rattle.volume_model.specs.Blocks.{Blocks, inodes_of, body_blocks_of}
-use Rattle.volume_model.specs.Reading.{Reading, reading_of, used_of}
-use Rattle.volume_model.specs.Claims.{claims_of}
-use Rattle.volume_model.specs.Hands.{Hand, AreApart}
-use Rattle.volume_model.specs.RecordRules.{is_bad_group, is_bad_inode, has_bad_fields, is_no_directory, is_claimed_twice}
-use Rattle.volume_model.specs.NameRules.{has_bad_chunk, names_unused, has_bad_parent, has_bad_links}
-use Rattle.volume_model.specs.BitRules.{has_bad_inode_bit, has_bad_block_bit, has_bad_count}
-
--- the rules in order; each later one is of volumes that keep the earlier ones
-abbrev pub all_kinds : List Kind
-all_kinds =
-    Group ∷ (Inode ∷ (Fields ∷ (Root ∷ (Twice ∷ (Chunk ∷ (Name ∷ (Parent ∷ (Links ∷ (InodeBit ∷ (BlockBit ∷ (Count ∷ [])))))))))))
-
--- the numbers for which a rule may be broken
-abbrev pub numbers_of_kind : Geometry → Kind → List ℕ
-numbers_of_kind g Group = range_with_len 0 g.groups
-numbers_of_kind g Inode = range_with_len 0 (inodes_of g)
-numbers_of_kind g Fields = range_with_len 0 (inodes_of g)
-numbers_of_kind g Root = 2 ∷ []
-numbers_of_kind g Twice = range_with_len 0 (blocks_of g)
-numbers_of_kind g Chunk = range_with_len 0 (inodes_of g)
-numbers_of_kind g Name = range_with_len 0 (inodes_of g)
-numbers_of_kind g Parent = range_with_len 0 (inodes_of g)
-numbers_of_kind g Links = range_with_len 0 (inodes_of g)
-numbers_of_kind g InodeBit = range_with_len 0 (inodes_of g)
-numbers_of_kind g BlockBit = range_with_len 0 (blocks_of g)
-numbers_of_kind g Count = range_with_len 0 g.groups
-
--- the rule is broken for this number
-abbrev pub is_broken : Geometry → Reading → List Hand → Kind → ℕ → Bool
-is_broken g r hands Group n = is_bad_group r n
-is_broken g r hands Inode n = is_bad_inode r n
-is_broken g r hands Fields n = has_bad_fields g r n
-is_broken g r hands Root n = is_no_directory r n
-is_broken g r hands Twice n = is_claimed_twice r n
-is_broken g r hands Chunk n = has_bad_chunk r n
-is_broken g r hands Name n = names_unused r n
-is_broken g r hands Parent n = has_bad_parent r n
-is_broken g r hands Links n = has_bad_links r n
-is_broken g r hands InodeBit n = has_bad_inode_bit g r hands n
-is_broken g r hands BlockBit n = has_bad_block_bit g r hands n
-is_broken g r hands Count n = has_bad_count g r n
-
--- the lowest number for which a rule is broken
-abbrev pub first_of_kind : Geometry → Reading → List Hand → Kind → Option ℕ
-first_of_kind g r hands kind = find (is_broken g r hands kind) (numbers_of_kind g kind)
-
--- the first of these rules that is broken, with that number
-abbrev pub first_of_kinds : Geometry → Reading → List Hand → List Kind → Option (Kind × ℕ)
-first_of_kinds g r hands [] = None
-first_of_kinds g r hands (kind ∷ kinds) =
-    option_or (option_map (λ n. (kind, n)) (first_of_kind g r hands kind)) (first_of_kinds g r hands kinds)
-
--- the first finding in what the records of a volume say
-unfoldable pub finding_of : Geometry → Reading → List Hand → Option (Kind × ℕ)
-finding_of g r hands = first_of_kinds g r hands all_kinds
-
--- The volume is sound while these are held: no rule is broken, and what is held is free.
-pub record Sound (g : Geometry) (blocks : Blocks) (hands : List Hand) : Type 0 where
-  pub rules : finding_of g (reading_of g blocks) hands ≡ None
-  pub apart : AreApart g (reading_of g blocks) hands
-
--- how many inodes are in use, how many blocks they claim, and how many are left
-abbrev pub counts_of : Geometry → Reading → Counts
-counts_of g r = record {
-  inodes = count_by (λ state. is_some (used_of state)) r.inodes;
-  blocks = length (claims_of r);
-  free = body_blocks_of g - length (claims_of r);
-}
-
-abbrev pub verdict_on : Geometry → Reading → Option (Kind × ℕ) → Verdict
-verdict_on g r None = Clean (counts_of g r)
-verdict_on g r (Some finding) = Finding finding.0 finding.1
-
-abbrev pub verdict_of_reading : Geometry → Reading → Verdict
-verdict_of_reading g r = verdict_on g r (finding_of g r [])
-
--- what a check of a volume answers, while nothing is held
-unfoldable pub verdict_of : Geometry → Blocks → Verdict
-verdict_of g blocks = verdict_of_reading g (reading_of g blocks)
+-- What sound means, and the tree that a sound volume stands for.
+pub mod Readings
+pub mod Claims
+pub mod Hands
+pub mod RecordRules
+pub mod NameRules
+pub mod BitRules
+pub mod Findings
+pub mod Trees
+pub mod Parts
+pub mod TreesOfVolumes
+pub mod Mounting
+pub mod Opening
+pub mod Agreement
+pub use Readings.{PointerName, Single, NamedPointer, UsedInode, InodeState, NoRecord, Unused, InUse, Reading}
+unfoldable pub use Readings.{direct_blocks, pointers_of_block, group_at, inode_at, named_pointers, block_numbered, pointers_at, numbers_of, chunk_at, chunks_at, used_inode, state_of, state_at, reading_of, inodes_in, used_of, used_at, record_at}
+pub use Claims.{Part, AtIndex, AtPointer, Claim, IsLaid}
+unfoldable pub use Claims.{index_claim, index_claims, pointer_claim, claims_in, claims_at, claims_of, claims_on, is_claimed}
+pub use Hands.{AreApart}
+unfoldable pub use Hands.{held_inodes, held_blocks, is_among}
+unfoldable pub use RecordRules.{is_bad_group, is_bad_state, is_bad_inode, size_in_blocks, most_blocks, first_index, has_right_links, has_right_size, has_none_past, has_no_hole, has_right_numbers, has_right_fields, has_bad_fields, has_links_out_of_range, has_bad_numbers, is_claimed_twice}
+unfoldable pub use NameRules.{Names, slots_of, names_in_reading, dot, dot_dot, is_used_in, is_directory_in, slots_at, names_at, entries_at, parent_at, is_no_directory, begins_right, has_twice, has_bad_slots, names_unused, namers_of, ancestor_of, leads_to_root, has_right_parent, has_bad_parent, links_to, has_bad_bytes, has_bad_chunk, has_bad_links}
+unfoldable pub use BitRules.{inode_bit, block_bit, differ, has_bad_inode_bit, has_bad_block_bit, has_right_counts, has_bad_count, clear_in, clear_blocks_of, clear_inodes_in, clear_inodes_of}
+pub use Findings.{Sound}
+unfoldable pub use Findings.{all_kinds, numbers_of_kind, is_broken, first_of_kind, first_of_kinds, finding_of, counts_of, verdict_on, verdict_of_reading, verdict_of}
+pub use Trees.{Attributes, FileNode, DirectoryNode, LinkNode, Node, File, Directory, Link}
+unfoldable pub use Trees.{Tree, with_node, directory_blocks, claimed_by, claimed_at, claimed_in_tree, used_in_tree, free_inodes_of, free_blocks_of, shape_of_block, shape_of_node, shape_of, slots_of_node, names_in_tree}
+pub use Parts.{IsStored, MakeATree, HasRightLinks}
+unfoldable pub use Parts.{IsRightTree}
+pub use TreesOfVolumes.{StandsFor}
+unfoldable pub use TreesOfVolumes.{attributes_of, file_block, file_blocks, pointer_names, link_text, node_of, tree_of_reading, tree_of}
+pub use Mounting.{HasShape}
+unfoldable pub use Mounting.{MountsAs}
+pub use Opening.{HasNoLaterIdent, OpensWith}
+unfoldable pub use Opening.{Opens}
+unfoldable pub use Agreement.{index_length, part_length, claim_length, is_of_file, metadata_claim_length, greatest_on, record_length, length_of_records, read_length, metadata_length, AgreeWhereRead, AgreeButInFileBytes}

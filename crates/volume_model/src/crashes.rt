@@ -6,11 +6,9 @@ ghost use Rattle.volume_model.specs.declared.device_call.DeviceCall.{DeviceCall}
 ghost use Rattle.volume_model.specs.declared.device_call.DeviceCall.TheVariants.{Write, Flush};
 ghost use Rattle.volume_model.specs.declared.log.Header.{Header};
 ghost use Rattle.volume_model.specs.declared.log.Tx.{Tx};
-ghost use Rattle.volume_model.specs.Image.{Image, sectors_from, overwritten};
-ghost use Rattle.volume_model.specs.Record.{Record, with_call, with_calls, up_to, IsOfSectors};
-ghost use Rattle.volume_model.specs.Outcome.{Outcome, IsPartlyWritten, IsSettled, present_of, record_from, is_flush};
-ghost use Rattle.volume_model.specs.Log.{Behind, Listed, log_of};
-ghost use Rattle.volume_model.specs.Recovered.{recovered, replayed, recovered_byte, live_deltas, IsUntouched};
+ghost use Rattle.volume_model.specs.Format.{Image, sectors_from, overwritten};
+ghost use Rattle.volume_model.specs.Crash.{Record, with_call, with_calls, up_to, IsOfSectors, Outcome, IsPartlyWritten, IsSettled, present_of, record_from, is_flush};
+ghost use Rattle.volume_model.specs.Log.{Behind, Listed, log_of, recovered, replayed, recovered_byte, live_deltas, IsUncovered};
 
 /// What a crash may leave, and what stands there, call by call.
 pub fn outcomes_by_call()
@@ -44,7 +42,7 @@ pub fn replays()
     ensures size { (image : Image) (txs : List Tx) → length (replayed image txs) ≡ length image }
     ensures byte { (image : Image) (txs : List Tx) (address : ℕ) → address < length image → slice_index (replayed image txs) address ≡ recovered_byte image (live_deltas txs) address }
     // A block that no delta touches stays.
-    ensures untouched { (image : Image) (txs : List Tx) (b : ℕ) → IsUntouched b txs → sectors_from (replayed image txs) (8 * b) 8 ≡ sectors_from image (8 * b) 8 }
+    ensures untouched { (image : Image) (txs : List Tx) (b : ℕ) → IsUncovered b txs → sectors_from (replayed image txs) (8 * b) 8 ≡ sectors_from image (8 * b) 8 }
     // A log with no transaction leaves the image as it is.
     ensures nothing { (g : Geometry) (image : Image) (h : Header) → log_of g image ≡ Behind h (Listed []) → recovered g image ≡ Some image }
 {}

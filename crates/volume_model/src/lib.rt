@@ -6,9 +6,9 @@ mod crashes;
 mod device_call;
 mod directory;
 mod finding;
+mod hand;
 mod inode;
 mod log;
-mod soundness;
 mod worked;
 mod worked_blocks;
 mod worked_findings;
@@ -21,10 +21,10 @@ pub use crashes::{outcomes_by_call, outcomes_by_record, replays};
 pub use device_call::DeviceCall;
 pub use directory::Slot;
 pub use finding::{Counts, Kind, Verdict};
+pub use hand::{BlockList, Hand};
 pub use inode::Dinode;
 pub use log::{Header, Trailer, Tx, TxList};
-pub use soundness::{findings_in_order, free_blocks, one_tree, verdicts, what_is_read};
-pub use worked::{logs, replays_of_four_bytes, superblocks, texts, values_after_crash};
+pub use worked::{logs, replays_of_four_bytes, rings, superblocks, texts, values_after_crash};
 pub use worked_blocks::{chunks, pointer_blocks};
 pub use worked_findings::{
     findings_beside_hands, findings_come_in_order, findings_of_bits, findings_of_fields,
@@ -33,7 +33,9 @@ pub use worked_findings::{
 pub use worked_log::written;
 pub use worked_mkfs::new_volume;
 pub use worked_records::{groups, inodes};
-pub use worked_volumes::{check_texts, trees, volumes_that_are_sound};
+pub use worked_volumes::{
+    bytes_read, check_texts, numbers_and_claims, trees, volumes_that_are_sound,
+};
 
 #[cfg(test)]
 mod tests;

@@ -1,5 +1,5 @@
-use crate::{Tx, TxList};
-use lufs_base::DeltaList;
+use crate::{BlockList, Hand, Tx, TxList};
+use lufs_base::{BlockNo, DeltaList};
 use std::test::Fail;
 
 #[test]
@@ -19,6 +19,25 @@ fn transactions(rt: HostRuntime) -> Result<(), Fail> {
     for (k, want) in [(0, (1, 254, 3)), (1, (2, 2, 1))] {
         let tx = txs.as_slice().get(k).ok_or("no transaction")?;
         assert_eq!(rt; (tx.tid, tx.first, tx.sectors), want, "{k}");
+    }
+    Ok(())
+}
+
+#[test]
+fn hands(rt: HostRuntime) -> Result<(), Fail> {
+    let mut hand = Hand {
+        inode: Some(3),
+        blocks: BlockList::new(rt.alloc()),
+    };
+    assert_eq!(rt; hand.blocks.len(), 0);
+    for block in [38, 41] {
+        hand.blocks.push(BlockNo(block))?;
+    }
+    assert_eq!(rt; hand.inode, Some(3));
+    assert_eq!(rt; hand.blocks.len(), 2);
+    for (k, want) in [(0, 38), (1, 41)] {
+        let block = hand.blocks.as_slice().get(k).ok_or("no block")?;
+        assert_eq!(rt; *block, want, "{k}");
     }
     Ok(())
 }

@@ -1,8 +1,7 @@
 // The definitions of directory chunks and pointer blocks computed on small examples.
 ghost use Rattle.std.specs.Prelude.{◌≡◌, ◌∷◌, ◌++◌, [], replicate, length, Some, None};
-ghost use Rattle.volume_model.specs.DirectoryChunk.{chunk_of, chunk_bytes, room_in, with_name, without_slot, found_at, new_directory};
-ghost use Rattle.volume_model.specs.PointerBlock.{pointers_of, pointer_bytes};
-ghost use Rattle.volume_model.specs.WorkedBlocks.{root_chunk, odd_chunk, root_with_one, root_after_one, one, pointer_block, pointers};
+ghost use Rattle.volume_model.specs.Format.{chunk_of, chunk_bytes, room_in, with_name, without_slot, found_at, new_directory, pointers_of, pointer_bytes};
+ghost use Rattle.volume_model.specs.Worked.{root_chunk, odd_chunk, root_with_one, root_after_one, one, pointer_block, pointers};
 
 /// The chunk of a new root has `.` of length 12 and `..` of length 500.
 pub fn chunks()

@@ -4,15 +4,9 @@ ghost use Rattle.std.specs.List.{range_with_len};
 ghost use Rattle.lufs_base.specs.Fields.{field_bytes};
 ghost use Rattle.volume_model.specs.declared.finding.Kind.TheVariants.{Group, Inode, Fields, Root, Twice, Chunk, Name, Parent, Links, InodeBit, BlockBit, Count};
 ghost use Rattle.volume_model.specs.declared.finding.Verdict.TheVariants.{Clean, Finding};
-ghost use Rattle.volume_model.specs.InodeRecord.{dinode_bytes};
-ghost use Rattle.volume_model.specs.DirectoryChunk.{new_directory};
-ghost use Rattle.volume_model.specs.RecordRules.{has_right_size};
-ghost use Rattle.volume_model.specs.NameRules.{dot, dot_dot};
-ghost use Rattle.volume_model.specs.Reading.{reading_of};
-ghost use Rattle.volume_model.specs.Sound.{finding_of, verdict_of};
-ghost use Rattle.volume_model.specs.Worked.{smallest};
-ghost use Rattle.volume_model.specs.WorkedVolumes.{made_of, made, two_groups, changed, with_inode, with_bits, with_counts, with_chunk, with_pointers};
-ghost use Rattle.volume_model.specs.WorkedVolumes.{file, directory, link, slot, directory_slots, with_root, with_three, with_file, with_directory, with_a_circle, with_all, with_large_root, with_held_bits};
+ghost use Rattle.volume_model.specs.Format.{dinode_bytes, new_directory};
+ghost use Rattle.volume_model.specs.Sound.{has_right_size, dot, dot_dot, reading_of, finding_of, verdict_of};
+ghost use Rattle.volume_model.specs.Worked.{smallest, made_of, made, two_groups, changed, with_inode, with_bits, with_counts, with_chunk, with_pointers, file, directory, link, slot, directory_slots, with_root, with_three, with_file, with_directory, with_a_circle, with_a_file_above, with_all, with_large_root, with_held_bits};
 
 /// Records that are wrong: those of groups and inodes, the fields of an inode, the root, and claims.
 pub fn findings_of_records()
@@ -36,8 +30,8 @@ pub fn findings_of_fields()
     ensures largest_file { verdict_of smallest (with_three (file 1 4243456 [] 0 0)) ≡ Finding Links 3 }
     ensures larger_file { verdict_of smallest (with_three (file 1 4243457 [] 0 0)) ≡ Finding Fields 3 }
     ensures empty_directory { verdict_of smallest (with_three (directory 2 0 [] 0 0)) ≡ Finding Fields 3 }
-    ensures largest_directory { has_right_size (directory 2 1048576 [] 0 0) ≡ true }
-    ensures larger_directory { has_right_size (directory 2 1049088 [] 0 0) ≡ false }
+    ensures largest_directory { has_right_size smallest (directory 2 1048576 [] 0 0) ≡ true }
+    ensures larger_directory { has_right_size smallest (directory 2 1049088 [] 0 0) ≡ false }
     ensures half_a_chunk { verdict_of smallest (with_three (directory 2 768 (38 ∷ []) 0 1)) ≡ Finding Fields 3 }
     ensures link_without_text { verdict_of smallest (with_three (link 1 0 [] 0 0)) ≡ Finding Fields 3 }
     ensures longest_link { verdict_of smallest (with_three (link 1 1024 (38 ∷ []) 0 1)) ≡ Finding Links 3 }
@@ -61,6 +55,8 @@ pub fn findings_of_pointer_blocks()
     ensures pointer_past_the_size { verdict_of smallest (with_pointers (with_three (file 1 49153 [] 38 2)) 38 (0 ∷ (39 ∷ []))) ≡ Finding Fields 3 }
     ensures pointer_block_not_wanted { verdict_of smallest (with_three (file 1 49152 [] 38 1)) ≡ Finding Fields 3 }
     ensures pointer_block_in_itself { verdict_of smallest (with_pointers (with_three (file 1 49153 [] 38 2)) 38 (38 ∷ [])) ≡ Finding Twice 38 }
+    ensures pointer_block_of_an_empty_file { verdict_of smallest (with_three (file 1 0 [] 38 1)) ≡ Finding Fields 3 }
+    ensures pointer_block_of_twelve_blocks { verdict_of smallest (with_inode made 2 (directory 2 49152 (range_with_len 37 12) 49 13)) ≡ Finding Fields 2 }
     ensures directory_without_pointer_block { verdict_of smallest (with_inode with_large_root 2 (directory 2 49664 (range_with_len 37 12) 0 12)) ≡ Finding Fields 2 }
     ensures free_inode_named_behind_it { verdict_of smallest (with_chunk with_large_root 50 0 (slot 3 512 (codes "a") ∷ [])) ≡ Finding Name 2 }
 {}
@@ -72,6 +68,7 @@ pub fn findings_of_names()
     ensures dot_too_long { verdict_of smallest (with_root made (slot 2 16 dot ∷ (slot 2 496 dot_dot ∷ []))) ≡ Finding Chunk 2 }
     ensures no_dot_dot { verdict_of smallest (with_root made (slot 2 12 dot ∷ (slot 2 500 (codes "a") ∷ []))) ≡ Finding Chunk 2 }
     ensures dot_dot_unused { verdict_of smallest (with_root made (slot 2 12 dot ∷ (slot 0 500 [] ∷ []))) ≡ Finding Chunk 2 }
+    ensures dot_again { verdict_of smallest (with_root made (directory_slots 2 2 (slot 2 488 dot ∷ []))) ≡ Finding Chunk 2 }
     ensures name_twice { verdict_of smallest (with_root with_file (directory_slots 2 2 (slot 3 12 (codes "a") ∷ (slot 3 476 (codes "a") ∷ [])))) ≡ Finding Chunk 2 }
     ensures name_in_two_chunks { verdict_of smallest (changed (with_chunk with_file 37 1 (slot 3 512 (codes "a") ∷ [])) 36 272 (field_bytes 8 1024)) ≡ Finding Chunk 2 }
     ensures second_chunk_of_zeros { verdict_of smallest (changed with_file 36 272 (field_bytes 8 1024)) ≡ Finding Chunk 2 }
@@ -83,6 +80,7 @@ pub fn findings_of_names()
     ensures directory_without_name { verdict_of smallest (with_root with_directory (new_directory 2 2)) ≡ Finding Parent 3 }
     ensures directory_with_two_names { verdict_of smallest (with_root with_directory (directory_slots 2 2 (slot 3 12 (codes "d") ∷ (slot 3 476 (codes "e") ∷ [])))) ≡ Finding Parent 3 }
     ensures another_above { verdict_of smallest (with_chunk with_directory 38 0 (directory_slots 3 3 (slot 0 488 [] ∷ []))) ≡ Finding Parent 3 }
+    ensures file_above { verdict_of smallest with_a_file_above ≡ Finding Parent 3 }
     ensures circle_of_one { verdict_of smallest (with_root (with_chunk with_directory 38 0 (directory_slots 3 3 (slot 3 488 (codes "d") ∷ []))) (new_directory 2 2)) ≡ Finding Parent 3 }
     ensures circle_of_two { verdict_of smallest with_a_circle ≡ Finding Parent 3 }
     ensures file_without_name { verdict_of smallest (with_three (file 1 0 [] 0 0)) ≡ Finding Links 3 }
@@ -93,6 +91,8 @@ pub fn findings_of_names()
 
 /// Bits and counts that are wrong.
 pub fn findings_of_bits()
+    ensures bit_past_the_inodes { verdict_of smallest (changed made 35 36 (1 ∷ [])) ≡ Finding Group 0 }
+    ensures bit_past_the_blocks { verdict_of smallest (changed made 35 168 (1 ∷ [])) ≡ Finding Group 0 }
     ensures bit_of_a_free_inode { verdict_of smallest (with_bits made 15 7) ≡ Finding InodeBit 3 }
     ensures bit_of_the_last_inode { verdict_of smallest (changed made 35 35 (128 ∷ [])) ≡ Finding InodeBit 31 }
     ensures no_bit_of_the_root { verdict_of smallest (with_bits made 3 7) ≡ Finding InodeBit 2 }

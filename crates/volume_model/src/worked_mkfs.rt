@@ -1,9 +1,9 @@
 // What mkfs makes of a disk, computed for the smallest volume.
 ghost use Rattle.std.specs.Prelude.{◌≡◌, ◌∷◌, ◌++◌, [], codes, take, drop, replicate, Some, None};
 ghost use Rattle.std.specs.Option.{option_map};
-ghost use Rattle.volume_model.specs.GroupRecord.{clear_bits};
+ghost use Rattle.volume_model.specs.Format.{clear_bits};
 ghost use Rattle.volume_model.specs.MkfsImage.{made_group, made_block};
-ghost use Rattle.volume_model.specs.MkfsText.{mkfs_text};
+ghost use Rattle.volume_model.specs.Texts.{mkfs_text};
 ghost use Rattle.volume_model.specs.Worked.{smallest};
 
 /// The parts of the smallest volume, made at moment 1000.

@@ -1,7 +1,7 @@
 use Rattle.std.proofs.Common.{◌≡◌, ◌<◌, ◌≤◌, ℕ, true, false, List, Option, Some, None, MatchOption, rules}
 use borrow.Author.Tests.{tests}
 use Rattle.std.proofs.lemmas.Iterator.{first_from_Range}
-use Rattle.volume_model.specs.GroupRecord.{bit_at}
+use Rattle.volume_model.specs.Format.{bit_at}
 use Rattle.cyl_groups.specs.Bits.{IsFirstClear}
 use Rattle.cyl_groups.proofs.bits.first_clear.Goals as goal
 

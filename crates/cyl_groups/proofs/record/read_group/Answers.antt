@@ -1,6 +1,6 @@
 use Rattle.std.proofs.Common.{◌≡◌, ◌-◌, length, drop, ap, sym, ◌∙◌, arith}
 use Rattle.lufs_base.specs.Fields.{AreBytes}
-use Rattle.volume_model.specs.GroupRecord.{GroupRecord, named_group, has_clear_rest, has_reserved}
+use Rattle.volume_model.specs.Format.{GroupRecord, named_group, has_clear_rest, has_reserved}
 use Rattle.volume_model.proofs.Pieces.{rest_is_bytes}
 use Rattle.cyl_groups.proofs.RecordTests.{Passes, no_group, a_group, bits_of_tests, front_is_bytes, found}
 use Rattle.cyl_groups.proofs.record.read_group.Goals as goal

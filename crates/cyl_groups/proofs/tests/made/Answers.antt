@@ -1,5 +1,5 @@
 use Rattle.std.proofs.Common.{refl}
-use Rattle.volume_model.specs.GroupRecord.{clear_bits}
+use Rattle.volume_model.specs.Format.{clear_bits}
 use Rattle.cyl_groups.proofs.tests.made.Goals as goal
 
 pub returns-clause-counted : goal.returns-clause-counted

@@ -1,7 +1,7 @@
 use Rattle.std.proofs.Common.{◌≡◌, ℕ, ◌+◌, ◌-◌, [], ◌∷◌, ◌++◌, length, drop, true, false, option_map, ap, sym, ◌∙◌, arith, length-drop}
 use Rattle.std.proofs.lemmas.List.{take_rest, length_push}
 use Rattle.volume_model.specs.declared.directory.Slot.{Slot}
-use Rattle.volume_model.specs.DirectoryChunk.{is_slot, slot_at, slots_in}
+use Rattle.volume_model.specs.Format.{is_slot, slot_at, slots_in}
 use Rattle.dir_blocks.proofs.ReadSlots.{front_tests, read_more, read_none, read_all, chunk_writable_of}
 use Rattle.dir_blocks.proofs.chunk.read_chunk.Goals as goal
 

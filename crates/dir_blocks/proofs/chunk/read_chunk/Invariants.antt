@@ -1,5 +1,5 @@
 use Rattle.std.proofs.Common.{◌≡◌, ◌≤◌, ◌-◌, ◌*◌, ◌++◌, length, drop, option_map}
-use Rattle.volume_model.specs.DirectoryChunk.{slots_in}
+use Rattle.volume_model.specs.Format.{slots_in}
 use Rattle.dir_blocks.proofs.chunk.read_chunk.Given as goal
 
 -- the slots so far stand before those that the rest of the bytes gives

@@ -1,5 +1,5 @@
 use Rattle.std.proofs.Common.{ℕ, ◌+◌, sym, ap, subst, ◌∙◌}
-use Rattle.volume_model.specs.DirectoryChunk.{IsChunk, chunk_bytes}
+use Rattle.volume_model.specs.Format.{IsChunk, chunk_bytes}
 use Rattle.dir_blocks.proofs.WrittenSlots.{next_place, written_next, written_all}
 use Rattle.dir_blocks.proofs.chunk.write_chunk.Goals as goal
 

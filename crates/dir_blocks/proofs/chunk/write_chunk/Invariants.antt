@@ -1,6 +1,6 @@
 use Rattle.std.proofs.Common.{◌≡◌, sum_by, take}
 use Rattle.lufs_base.specs.Fields.{put_at}
-use Rattle.volume_model.specs.DirectoryChunk.{chunk_bytes}
+use Rattle.volume_model.specs.Format.{chunk_bytes}
 use Rattle.dir_blocks.proofs.chunk.write_chunk.Given as goal
 
 -- the slots so far are written

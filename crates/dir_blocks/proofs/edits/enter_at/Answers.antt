@@ -1,6 +1,6 @@
 use Rattle.std.proofs.Common.{◌≤◌, sym, subst, arith}
 use Rattle.volume_model.specs.declared.directory.Slot.{Slot}
-use Rattle.volume_model.specs.DirectoryChunk.{kept_length}
+use Rattle.volume_model.specs.Format.{kept_length}
 use Rattle.dir_blocks.proofs.ChangedSlots.{taken_over, entered_at}
 use Rattle.dir_blocks.proofs.edits.enter_at.Goals as goal
 

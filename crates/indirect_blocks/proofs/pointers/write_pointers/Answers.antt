@@ -1,7 +1,7 @@
 use Rattle.std.proofs.Common.{ℕ, ◌*◌, ◌<◌, List, length, take, ap, ◌∙◌, arith}
 use Rattle.std.proofs.lemmas.List.{get_or_read}
 use Rattle.lufs_base.specs.Fields.{put_at, field_bytes}
-use Rattle.volume_model.specs.PointerBlock.{pointer_bytes}
+use Rattle.volume_model.specs.Format.{pointer_bytes}
 use Rattle.indirect_blocks.proofs.Numbers.{written_more, written_all}
 use Rattle.indirect_blocks.proofs.pointers.write_pointers.Goals as goal
 

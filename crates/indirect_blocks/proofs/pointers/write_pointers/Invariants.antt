@@ -1,6 +1,6 @@
 use Rattle.std.proofs.Common.{◌≡◌, take}
 use Rattle.lufs_base.specs.Fields.{put_at}
-use Rattle.volume_model.specs.PointerBlock.{pointer_bytes}
+use Rattle.volume_model.specs.Format.{pointer_bytes}
 use Rattle.indirect_blocks.proofs.pointers.write_pointers.Given as goal
 
 -- the numbers so far are written

@@ -2,7 +2,7 @@ use Rattle.std.proofs.Common.{◌≡◌, ℕ, ◌+◌, ◌*◌, [], ◌∷◌, �
 use Rattle.std.proofs.lemmas.List.{take_more, length-take-le}
 use Rattle.std.proofs.lemmas.List.Concat.{flat_map-append}
 use Rattle.lufs_base.specs.Fields.{field_bytes}
-use Rattle.volume_model.specs.InodeRecord.{numbers_bytes}
+use Rattle.volume_model.specs.Format.{numbers_bytes}
 use Rattle.volume_model.proofs.Pieces.{pieces}
 use Rattle.inode_table.proofs.Rows.{length-numbers_bytes}
 use Rattle.inode_table.proofs.numbers.put_numbers.Goals as goal

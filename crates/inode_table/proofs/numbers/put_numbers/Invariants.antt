@@ -1,6 +1,6 @@
 use Rattle.std.proofs.Common.{◌≡◌, take}
 use Rattle.lufs_base.specs.Fields.{put_at}
-use Rattle.volume_model.specs.InodeRecord.{numbers_bytes}
+use Rattle.volume_model.specs.Format.{numbers_bytes}
 use Rattle.inode_table.proofs.numbers.put_numbers.Given as goal
 
 abbrev pub invariant-loop-i : goal.invariant-loop-i

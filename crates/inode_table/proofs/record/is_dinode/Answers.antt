@@ -3,7 +3,7 @@ use Rattle.std.proofs.lemmas.Bool.{and_from}
 use Rattle.lufs_base.specs.Fields.{u16_at, u32_at}
 use Rattle.std.proofs.lemmas.List.{take_rest}
 use Rattle.lufs_base.specs.Fields.{are_zeros}
-use Rattle.volume_model.specs.InodeRecord.{is_mode, has_indirect}
+use Rattle.volume_model.specs.Format.{is_mode, has_indirect}
 use Rattle.inode_table.proofs.record.is_dinode.Goals as goal
 
 cases_and : (a b : Bool) → b ≡ false → (a && b) ≡ false

@@ -3,7 +3,7 @@ use Rattle.std.proofs.lemmas.List.{drop-drop}
 use Rattle.std.proofs.lemmas.Bool.{and_parts}
 use Rattle.lufs_base.specs.Fields.{number_in, u32_at}
 use Rattle.inode_table.proofs.Rows.{length-numbers_in, number_of_row}
-use Rattle.volume_model.specs.InodeRecord.{is_mode, has_indirect}
+use Rattle.volume_model.specs.Format.{is_mode, has_indirect}
 use Rattle.inode_table.proofs.record.read_dinode.Goals as goal
 
 pub returns-clause-inode : goal.returns-clause-inode

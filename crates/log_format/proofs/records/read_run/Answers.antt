@@ -1,8 +1,7 @@
 use Rattle.std.proofs.Common.{◌≡◌, ◌+◌, ◌-◌, ◌≤◌, ◌++◌, ◌∷◌, [], length, drop, sym, subst, ap, ◌∙◌, arith, length-drop}
 use Rattle.std.proofs.lemmas.List.{length_push}
 use Rattle.lufs_base.specs.declared.delta.Delta.{Delta}
-use Rattle.volume_model.specs.LogRecord.{logged_len}
-use Rattle.volume_model.specs.LogRun.{Commit, Cut, Wrong}
+use Rattle.volume_model.specs.Log.{logged_len, Commit, Cut, Wrong}
 use Rattle.log_format.specs.InOrder.{InOrder}
 use Rattle.log_format.specs.declared.records.Front.TheVariants.{Logged, Commit as the_commit, Cut as the_cut, Wrong as the_wrong}
 use Rattle.log_format.proofs.Order.{InOrder-push}

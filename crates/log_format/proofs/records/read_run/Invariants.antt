@@ -1,5 +1,5 @@
 use Rattle.std.proofs.Common.{◌≡◌, ◌≤◌, suc, length, ◌-◌, drop}
-use Rattle.volume_model.specs.LogRun.{run_of, run_behind}
+use Rattle.volume_model.specs.Log.{run_of, run_behind}
 use Rattle.log_format.specs.InOrder.{InOrder}
 use Rattle.log_format.proofs.records.read_run.Given as goal
 

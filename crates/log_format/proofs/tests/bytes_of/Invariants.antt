@@ -1,5 +1,5 @@
 use Rattle.std.proofs.Common.{◌≡◌, ◌≤◌, ◌*◌, take}
-use Rattle.volume_model.specs.LogRecord.{delta_bytes}
+use Rattle.volume_model.specs.Log.{delta_bytes}
 use Rattle.log_format.proofs.tests.bytes_of.Given as goal
 
 abbrev pub invariant-loop-delta : goal.invariant-loop-delta

@@ -1,6 +1,6 @@
 use Rattle.std.proofs.Common.{ℕ, List, ap, ◌∙◌, arith}
 use Rattle.lufs_base.specs.Fields.{field_bytes, put_at}
-use Rattle.volume_model.specs.LogTrailer.{trailer_bytes}
+use Rattle.volume_model.specs.Log.{trailer_bytes}
 use Rattle.volume_model.proofs.Pieces.{pieces}
 use Rattle.log_format.proofs.Placed.{put_last}
 use Rattle.log_format.proofs.trailer.write_trailer.Goals as goal

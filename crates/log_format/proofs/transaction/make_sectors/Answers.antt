@@ -1,9 +1,8 @@
 use Rattle.std.proofs.Common.{◌≡◌, ℕ, ◌*◌, ◌-◌, ◌/◌, ◌++◌, List, length, take, drop, refl, sym, ap, ◌∙◌, arith}
 use Rattle.std.specs.List.{flat_map}
 use Rattle.std.proofs.lemmas.List.{drop_all}
-use Rattle.volume_model.specs.Image.{pieces_of}
-use Rattle.volume_model.specs.LogTrailer.{trailer_bytes}
-use Rattle.volume_model.specs.LogTx.{carrying}
+use Rattle.volume_model.specs.Format.{pieces_of}
+use Rattle.volume_model.specs.Log.{trailer_bytes, carrying}
 use Rattle.log_format.proofs.SectorSteps.{piece_count, front_step, back_step}
 use Rattle.log_format.proofs.transaction.make_sectors.Goals as goal
 

@@ -1,7 +1,7 @@
 use Rattle.std.proofs.Common.{◌≡◌, ◌*◌, ◌/◌, ◌++◌, ◌≤◌, length, take, drop}
 use Rattle.std.specs.List.{flat_map}
-use Rattle.volume_model.specs.Image.{pieces_of}
-use Rattle.volume_model.specs.LogTrailer.{trailer_bytes}
+use Rattle.volume_model.specs.Format.{pieces_of}
+use Rattle.volume_model.specs.Log.{trailer_bytes}
 use Rattle.log_format.proofs.transaction.make_sectors.Given as goal
 
 -- the sectors from `i` on are made, and the pieces before stand at the front as they did

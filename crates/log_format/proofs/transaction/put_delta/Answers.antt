@@ -1,6 +1,6 @@
 use Rattle.std.proofs.Common.{ℕ, List, ◌+◌, ap, ◌∙◌, arith}
 use Rattle.lufs_base.specs.Fields.{put_at}
-use Rattle.volume_model.specs.LogTx.{record_head}
+use Rattle.volume_model.specs.Log.{record_head}
 use Rattle.volume_model.proofs.Pieces.{pieces}
 use Rattle.log_format.proofs.transaction.put_delta.Goals as goal
 

@@ -1,6 +1,6 @@
 use Rattle.std.proofs.Common.{◌+◌, length, ap, sym, ◌∙◌, arith, length-append}
 use Rattle.std.specs.List.{flat_map}
-use Rattle.volume_model.specs.LogTx.{delta_record}
+use Rattle.volume_model.specs.Log.{delta_record}
 use Rattle.log_format.proofs.TxRecords.{record_fits, record_more, records_step}
 use Rattle.log_format.proofs.transaction.put_deltas.Goals as goal
 

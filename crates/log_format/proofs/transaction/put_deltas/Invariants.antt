@@ -1,6 +1,6 @@
 use Rattle.std.proofs.Common.{◌≡◌, length, take}
 use Rattle.std.specs.List.{flat_map}
-use Rattle.volume_model.specs.LogTx.{delta_record}
+use Rattle.volume_model.specs.Log.{delta_record}
 use Rattle.log_format.proofs.transaction.put_deltas.Given as goal
 
 -- the records of the deltas so far stand at the front

@@ -1,7 +1,7 @@
 use Rattle.std.proofs.Common.{◌≡◌, ap, arith}
 use Rattle.std.proofs.lemmas.List.{take_rest}
 use Rattle.lufs_base.specs.Fields.{are_zeros}
-use Rattle.volume_model.specs.Superblock.{named_geometry}
+use Rattle.volume_model.specs.Format.{named_geometry}
 use Rattle.lufs_base.specs.Layout.{blocks_of}
 use Rattle.lufs_base.specs.declared.geometry.Geometry.{Geometry}
 use Rattle.ufs_super.proofs.SuperblockTests.{no_super, a_super}

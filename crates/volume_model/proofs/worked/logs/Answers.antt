@@ -1,9 +1,6 @@
 use Rattle.std.proofs.Common.{refl}
 use Rattle.lufs_base.specs.Fields.{number_in}
-use Rattle.volume_model.specs.LogHeader.{header_of}
-use Rattle.volume_model.specs.LogRecord.{may_be_logged, may_precede}
-use Rattle.volume_model.specs.LogRun.{front_of, run_behind}
-use Rattle.volume_model.specs.Log.{transactions_from, log_with}
+use Rattle.volume_model.specs.Log.{header_of, may_be_logged, may_precede, front_of, run_behind, transactions_from, log_with}
 use Rattle.volume_model.proofs.worked.logs.Goals as goal
 
 pub returns-clause-no_header : goal.returns-clause-no_header

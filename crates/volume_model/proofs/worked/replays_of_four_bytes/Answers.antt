@@ -1,5 +1,5 @@
 use Rattle.std.proofs.Common.{refl}
-use Rattle.volume_model.specs.Recovered.{replayed}
+use Rattle.volume_model.specs.Log.{replayed}
 use Rattle.volume_model.proofs.worked.replays_of_four_bytes.Goals as goal
 
 pub returns-clause-one : goal.returns-clause-one

@@ -1,6 +1,6 @@
 use Rattle.std.proofs.Common.{refl}
 use Rattle.lufs_base.specs.Fields.{number_in}
-use Rattle.volume_model.specs.Superblock.{super_of, super_bytes}
+use Rattle.volume_model.specs.Format.{super_of, super_bytes}
 use Rattle.volume_model.proofs.worked.superblocks.Goals as goal
 
 pub returns-clause-fits : goal.returns-clause-fits

@@ -1,6 +1,6 @@
 use Rattle.std.proofs.Common.{refl}
 use Rattle.std.specs.Fmt.{digits}
-use Rattle.volume_model.specs.ScanText.{scan_text}
+use Rattle.volume_model.specs.Texts.{scan_text}
 use Rattle.volume_model.proofs.worked.texts.Goals as goal
 
 pub returns-clause-empty : goal.returns-clause-empty

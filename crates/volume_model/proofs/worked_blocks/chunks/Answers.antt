@@ -1,6 +1,6 @@
 use Rattle.std.proofs.Common.{refl}
 use Rattle.lufs_base.specs.Fields.{number_in}
-use Rattle.volume_model.specs.DirectoryChunk.{slots_in}
+use Rattle.volume_model.specs.Format.{slots_in}
 use Rattle.volume_model.proofs.worked_blocks.chunks.Goals as goal
 
 pub returns-clause-read : goal.returns-clause-read

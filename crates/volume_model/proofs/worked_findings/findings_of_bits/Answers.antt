@@ -1,12 +1,8 @@
 use Rattle.std.proofs.Common.{refl}
 use Rattle.lufs_base.specs.Fields.{number_in}
 use Rattle.volume_model.specs.MkfsImage.{made_block}
-use Rattle.volume_model.specs.GroupRecord.{clear_bits, group_bytes, group_of}
-use Rattle.volume_model.specs.InodeRecord.{dinode_bytes, dinode_of, numbers_in}
-use Rattle.volume_model.specs.DirectoryChunk.{slots_in}
-use Rattle.volume_model.specs.Reading.{reading_of}
-use Rattle.volume_model.specs.Claims.{claims_of}
-use Rattle.volume_model.specs.Sound.{finding_of, verdict_of}
+use Rattle.volume_model.specs.Format.{clear_bits, group_bytes, group_of, dinode_bytes, dinode_of, numbers_in, slots_in}
+use Rattle.volume_model.specs.Sound.{reading_of, claims_of, finding_of, verdict_of}
 use Rattle.volume_model.proofs.worked_findings.findings_of_bits.Goals as goal
 
 pub returns-clause-bit_of_a_free_inode : goal.returns-clause-bit_of_a_free_inode
@@ -52,3 +48,11 @@ returns-clause-count_of_inodes c = refl
 pub returns-clause-count_of_blocks : goal.returns-clause-count_of_blocks
 unfolding number_in made_block clear_bits group_bytes group_of dinode_bytes dinode_of numbers_in slots_in reading_of claims_of finding_of verdict_of
 returns-clause-count_of_blocks c = refl
+
+pub returns-clause-bit_past_the_inodes : goal.returns-clause-bit_past_the_inodes
+unfolding number_in made_block clear_bits group_bytes group_of dinode_bytes dinode_of numbers_in slots_in reading_of claims_of finding_of verdict_of
+returns-clause-bit_past_the_inodes c = refl
+
+pub returns-clause-bit_past_the_blocks : goal.returns-clause-bit_past_the_blocks
+unfolding number_in made_block clear_bits group_bytes group_of dinode_bytes dinode_of numbers_in slots_in reading_of claims_of finding_of verdict_of
+returns-clause-bit_past_the_blocks c = refl

@@ -1,12 +1,8 @@
 use Rattle.std.proofs.Common.{refl}
 use Rattle.lufs_base.specs.Fields.{number_in}
 use Rattle.volume_model.specs.MkfsImage.{made_block}
-use Rattle.volume_model.specs.GroupRecord.{clear_bits, group_bytes, group_of}
-use Rattle.volume_model.specs.InodeRecord.{dinode_bytes, dinode_of, numbers_in}
-use Rattle.volume_model.specs.DirectoryChunk.{slots_in}
-use Rattle.volume_model.specs.Reading.{reading_of}
-use Rattle.volume_model.specs.Claims.{claims_of}
-use Rattle.volume_model.specs.Sound.{finding_of, verdict_of}
+use Rattle.volume_model.specs.Format.{clear_bits, group_bytes, group_of, dinode_bytes, dinode_of, numbers_in, slots_in}
+use Rattle.volume_model.specs.Sound.{reading_of, claims_of, finding_of, verdict_of}
 use Rattle.volume_model.proofs.worked_findings.findings_of_names.Goals as goal
 
 pub returns-clause-slot_of_thirteen_bytes : goal.returns-clause-slot_of_thirteen_bytes
@@ -96,3 +92,11 @@ returns-clause-dot_not_counted c = refl
 pub returns-clause-dot_dot_not_counted : goal.returns-clause-dot_dot_not_counted
 unfolding number_in made_block clear_bits group_bytes group_of dinode_bytes dinode_of numbers_in slots_in reading_of claims_of finding_of verdict_of
 returns-clause-dot_dot_not_counted c = refl
+
+pub returns-clause-dot_again : goal.returns-clause-dot_again
+unfolding number_in made_block clear_bits group_bytes group_of dinode_bytes dinode_of numbers_in slots_in reading_of claims_of finding_of verdict_of
+returns-clause-dot_again c = refl
+
+pub returns-clause-file_above : goal.returns-clause-file_above
+unfolding number_in made_block clear_bits group_bytes group_of dinode_bytes dinode_of numbers_in slots_in reading_of claims_of finding_of verdict_of
+returns-clause-file_above c = refl

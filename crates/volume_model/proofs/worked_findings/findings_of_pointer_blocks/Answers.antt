@@ -1,12 +1,8 @@
 use Rattle.std.proofs.Common.{refl}
 use Rattle.lufs_base.specs.Fields.{number_in}
 use Rattle.volume_model.specs.MkfsImage.{made_block}
-use Rattle.volume_model.specs.GroupRecord.{clear_bits, group_bytes, group_of}
-use Rattle.volume_model.specs.InodeRecord.{dinode_bytes, dinode_of, numbers_in}
-use Rattle.volume_model.specs.DirectoryChunk.{slots_in}
-use Rattle.volume_model.specs.Reading.{reading_of}
-use Rattle.volume_model.specs.Claims.{claims_of}
-use Rattle.volume_model.specs.Sound.{finding_of, verdict_of}
+use Rattle.volume_model.specs.Format.{clear_bits, group_bytes, group_of, dinode_bytes, dinode_of, numbers_in, slots_in}
+use Rattle.volume_model.specs.Sound.{reading_of, claims_of, finding_of, verdict_of}
 use Rattle.volume_model.proofs.worked_findings.findings_of_pointer_blocks.Goals as goal
 
 pub returns-clause-pointer_block_of_the_log : goal.returns-clause-pointer_block_of_the_log
@@ -36,3 +32,11 @@ returns-clause-directory_without_pointer_block c = refl
 pub returns-clause-free_inode_named_behind_it : goal.returns-clause-free_inode_named_behind_it
 unfolding number_in made_block clear_bits group_bytes group_of dinode_bytes dinode_of numbers_in slots_in reading_of claims_of finding_of verdict_of
 returns-clause-free_inode_named_behind_it c = refl
+
+pub returns-clause-pointer_block_of_an_empty_file : goal.returns-clause-pointer_block_of_an_empty_file
+unfolding number_in made_block clear_bits group_bytes group_of dinode_bytes dinode_of numbers_in slots_in reading_of claims_of finding_of verdict_of
+returns-clause-pointer_block_of_an_empty_file c = refl
+
+pub returns-clause-pointer_block_of_twelve_blocks : goal.returns-clause-pointer_block_of_twelve_blocks
+unfolding number_in made_block clear_bits group_bytes group_of dinode_bytes dinode_of numbers_in slots_in reading_of claims_of finding_of verdict_of
+returns-clause-pointer_block_of_twelve_blocks c = refl

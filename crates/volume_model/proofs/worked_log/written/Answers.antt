@@ -1,6 +1,5 @@
 use Rattle.std.proofs.Common.{refl}
-use Rattle.volume_model.specs.LogHeader.{header_bytes}
-use Rattle.volume_model.specs.LogTx.{carrying}
+use Rattle.volume_model.specs.Log.{header_bytes, carrying}
 use Rattle.volume_model.proofs.worked_log.written.Goals as goal
 
 pub returns-clause-header : goal.returns-clause-header
@@ -34,3 +33,11 @@ returns-clause-two_sectors c = refl
 pub returns-clause-read_back : goal.returns-clause-read_back
 unfolding header_bytes carrying
 returns-clause-read_back c = refl
+
+pub returns-clause-one_sector : goal.returns-clause-one_sector
+unfolding header_bytes carrying
+returns-clause-one_sector c = refl
+
+pub returns-clause-sectors_one_by_one : goal.returns-clause-sectors_one_by_one
+unfolding header_bytes carrying
+returns-clause-sectors_one_by_one c = refl

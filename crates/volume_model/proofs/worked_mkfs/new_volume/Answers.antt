@@ -1,10 +1,9 @@
 use Rattle.std.proofs.Common.{refl}
-use Rattle.volume_model.specs.GroupRecord.{clear_bits, group_bytes}
-use Rattle.volume_model.specs.InodeRecord.{dinode_bytes}
-use Rattle.volume_model.specs.LogHeader.{header_bytes}
+use Rattle.volume_model.specs.Format.{clear_bits, group_bytes, dinode_bytes}
+use Rattle.volume_model.specs.Log.{header_bytes}
 use Rattle.volume_model.specs.MkfsImage.{made_block}
 use Rattle.std.specs.Fmt.{digits}
-use Rattle.volume_model.specs.MkfsText.{mkfs_text}
+use Rattle.volume_model.specs.Texts.{mkfs_text}
 use Rattle.volume_model.proofs.worked_mkfs.new_volume.Goals as goal
 
 pub returns-clause-text : goal.returns-clause-text

@@ -1,6 +1,6 @@
 use Rattle.std.proofs.Common.{refl}
 use Rattle.lufs_base.specs.Fields.{number_in}
-use Rattle.volume_model.specs.GroupRecord.{group_of, group_bytes, clear_bits}
+use Rattle.volume_model.specs.Format.{group_of, group_bytes, clear_bits}
 use Rattle.volume_model.proofs.worked_records.groups.Goals as goal
 
 pub returns-clause-made : goal.returns-clause-made

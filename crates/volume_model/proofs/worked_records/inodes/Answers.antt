@@ -1,6 +1,6 @@
 use Rattle.std.proofs.Common.{refl}
 use Rattle.lufs_base.specs.Fields.{number_in}
-use Rattle.volume_model.specs.InodeRecord.{numbers_in, dinode_of, dinode_bytes}
+use Rattle.volume_model.specs.Format.{numbers_in, dinode_of, dinode_bytes}
 use Rattle.volume_model.proofs.worked_records.inodes.Goals as goal
 
 pub returns-clause-root : goal.returns-clause-root

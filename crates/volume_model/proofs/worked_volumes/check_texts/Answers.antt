@@ -1,6 +1,6 @@
 use Rattle.std.proofs.Common.{refl}
 use Rattle.std.specs.Fmt.{digits}
-use Rattle.volume_model.specs.CheckText.{verdict_text}
+use Rattle.volume_model.specs.Texts.{verdict_text}
 use Rattle.volume_model.proofs.worked_volumes.check_texts.Goals as goal
 
 pub returns-clause-clean : goal.returns-clause-clean

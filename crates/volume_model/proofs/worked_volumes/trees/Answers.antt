@@ -1,12 +1,8 @@
 use Rattle.std.proofs.Common.{refl}
 use Rattle.lufs_base.specs.Fields.{number_in}
 use Rattle.volume_model.specs.MkfsImage.{made_block}
-use Rattle.volume_model.specs.GroupRecord.{clear_bits, group_bytes, group_of}
-use Rattle.volume_model.specs.InodeRecord.{dinode_bytes, dinode_of, numbers_in}
-use Rattle.volume_model.specs.DirectoryChunk.{slots_in}
-use Rattle.volume_model.specs.Reading.{reading_of}
-use Rattle.volume_model.specs.StandsFor.{tree_of}
-use Rattle.volume_model.specs.Tree.{free_blocks_of, shape_of}
+use Rattle.volume_model.specs.Format.{clear_bits, group_bytes, group_of, dinode_bytes, dinode_of, numbers_in, slots_in}
+use Rattle.volume_model.specs.Sound.{reading_of, tree_of, free_inodes_of, free_blocks_of, shape_of}
 use Rattle.volume_model.proofs.worked_volumes.trees.Goals as goal
 
 pub returns-clause-new_root : goal.returns-clause-new_root
@@ -17,9 +13,21 @@ pub returns-clause-new_free_blocks : goal.returns-clause-new_free_blocks
 unfolding number_in made_block clear_bits group_bytes group_of dinode_bytes dinode_of numbers_in slots_in reading_of tree_of free_blocks_of
 returns-clause-new_free_blocks c = refl
 
-pub returns-clause-inodes : goal.returns-clause-inodes
+pub returns-clause-past_the_volume : goal.returns-clause-past_the_volume
 unfolding number_in made_block clear_bits group_bytes group_of dinode_bytes dinode_of numbers_in slots_in reading_of tree_of
-returns-clause-inodes c = refl
+returns-clause-past_the_volume c = refl
+
+pub returns-clause-root_of_two_groups : goal.returns-clause-root_of_two_groups
+unfolding number_in made_block clear_bits group_bytes group_of dinode_bytes dinode_of numbers_in slots_in reading_of tree_of
+returns-clause-root_of_two_groups c = refl
+
+pub returns-clause-free_of_two_groups : goal.returns-clause-free_of_two_groups
+unfolding number_in made_block clear_bits group_bytes group_of dinode_bytes dinode_of numbers_in slots_in reading_of tree_of
+returns-clause-free_of_two_groups c = refl
+
+pub returns-clause-free_blocks_of_two_groups : goal.returns-clause-free_blocks_of_two_groups
+unfolding number_in made_block clear_bits group_bytes group_of dinode_bytes dinode_of numbers_in slots_in reading_of tree_of free_blocks_of
+returns-clause-free_blocks_of_two_groups c = refl
 
 pub returns-clause-free : goal.returns-clause-free
 unfolding number_in made_block clear_bits group_bytes group_of dinode_bytes dinode_of numbers_in slots_in reading_of tree_of
@@ -64,3 +72,11 @@ returns-clause-twelve_blocks c = refl
 
 pub returns-clause-thirteen_blocks : goal.returns-clause-thirteen_blocks
 returns-clause-thirteen_blocks c = refl
+
+pub returns-clause-free_inodes : goal.returns-clause-free_inodes
+unfolding number_in made_block clear_bits group_bytes group_of dinode_bytes dinode_of numbers_in slots_in reading_of tree_of free_inodes_of
+returns-clause-free_inodes c = refl
+
+pub returns-clause-free_inodes_of_two_groups : goal.returns-clause-free_inodes_of_two_groups
+unfolding number_in made_block clear_bits group_bytes group_of dinode_bytes dinode_of numbers_in slots_in reading_of tree_of free_inodes_of
+returns-clause-free_inodes_of_two_groups c = refl

@@ -1,12 +1,8 @@
 use Rattle.std.proofs.Common.{refl}
 use Rattle.lufs_base.specs.Fields.{number_in}
 use Rattle.volume_model.specs.MkfsImage.{made_block}
-use Rattle.volume_model.specs.GroupRecord.{clear_bits, group_bytes, group_of}
-use Rattle.volume_model.specs.InodeRecord.{dinode_bytes, dinode_of, numbers_in}
-use Rattle.volume_model.specs.DirectoryChunk.{slots_in}
-use Rattle.volume_model.specs.Reading.{reading_of}
-use Rattle.volume_model.specs.Claims.{claims_of}
-use Rattle.volume_model.specs.Sound.{finding_of, verdict_of}
+use Rattle.volume_model.specs.Format.{clear_bits, group_bytes, group_of, dinode_bytes, dinode_of, numbers_in, slots_in}
+use Rattle.volume_model.specs.Sound.{reading_of, claims_of, finding_of, verdict_of}
 use Rattle.volume_model.proofs.worked_volumes.volumes_that_are_sound.Goals as goal
 
 pub returns-clause-new_volume : goal.returns-clause-new_volume

@@ -1,6 +1,6 @@
 use Rattle.std.proofs.Common.{List, ap, ◌∙◌}
 use Rattle.volume_model.specs.declared.directory.Slot.{Slot}
-use Rattle.volume_model.specs.DirectoryChunk.{found_at}
+use Rattle.volume_model.specs.Format.{found_at}
 use Rattle.dir_blocks.proofs.ChangedSlots.{found_used}
 use Rattle.dir_blocks.proofs.chunk.Chunk.find.Goals as goal
 

@@ -1,6 +1,6 @@
 use Rattle.std.proofs.Common.{◌≡◌, List, Some, sym, ap, ◌∙◌, arith}
 use Rattle.volume_model.specs.declared.directory.Slot.{Slot}
-use Rattle.volume_model.specs.DirectoryChunk.{room_in}
+use Rattle.volume_model.specs.Format.{room_in}
 use Rattle.dir_blocks.proofs.RightSlots.{entered_chunk}
 use Rattle.dir_blocks.proofs.chunk.Chunk.put.Goals as goal
 

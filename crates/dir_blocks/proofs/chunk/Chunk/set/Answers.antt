@@ -1,6 +1,6 @@
 use Rattle.std.proofs.Common.{List, sym, subst, arith}
 use Rattle.volume_model.specs.declared.directory.Slot.{Slot}
-use Rattle.volume_model.specs.DirectoryChunk.{IsChunk, IsUsed}
+use Rattle.volume_model.specs.Format.{IsChunk, IsUsed}
 use Rattle.dir_blocks.proofs.RightSlots.{with_ino_right, are_right, is_chunk}
 use Rattle.dir_blocks.proofs.chunk.Chunk.set.Goals as goal
 

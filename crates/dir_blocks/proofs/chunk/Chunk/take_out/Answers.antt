@@ -1,5 +1,5 @@
 use Rattle.std.proofs.Common.{sym, subst}
-use Rattle.volume_model.specs.DirectoryChunk.{IsChunk}
+use Rattle.volume_model.specs.Format.{IsChunk}
 use Rattle.dir_blocks.proofs.RightSlots.{without_right, are_right, is_chunk}
 use Rattle.dir_blocks.proofs.chunk.Chunk.take_out.Goals as goal
 
