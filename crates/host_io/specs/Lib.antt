@@ -1,3 +1,4 @@
+pub mod Places
 pub mod Outside
 pub mod MemSink
 pub mod Named

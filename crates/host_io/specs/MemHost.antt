@@ -1,89 +1,72 @@
--- A host in memory, as a test sees it.
-use Rattle.std.specs.Prelude.{◌≡◌, ◌⊎◌, ◌∷◌, ℕ, if◌then◌else◌, List, [], map, Option, Result, Err, bytes_eq}
+-- A host in memory, as its calls see it.
+use Rattle.std.specs.Prelude.{◌≡◌, ◌⊎◌, ◌∷◌, ℕ, ◌*◌, if◌then◌else◌, List, [], replicate, Option, Some, unwrap_or, Result, Err, bytes_eq}
 use Rattle.std.specs.List.{flat_map}
-use Rattle.sector_disk.specs.MemDisk.{State as DiskState}
-use Rattle.host_io.specs.MemSink.{State as SinkState}
+use Rattle.sector_disk.specs.MemDisk.{State as DiskState, new_state as new_disk, told_of as disk_told}
+use Rattle.host_io.specs.MemSink.{State as SinkState, told_of as sink_told}
 use Rattle.host_io.specs.declared.host.Ask.{Ask}
 use Rattle.host_io.specs.declared.host.HostError.{HostError}
 use Rattle.host_io.specs.declared.host.HostError.TheVariants.{Failed, Mem}
-use Rattle.host_io.specs.declared.mem_host.MemHost.{MemHost}
 use Rattle.host_io.specs.declared.mem_host.PutFail.{PutFail}
-use Rattle.host_io.specs.Named.{held_at}
+use Rattle.host_io.specs.declared.named.Named.{Named}
+use Rattle.host_io.specs.Places.{place_map}
+use Rattle.host_io.specs.Named.{places_of}
+use Rattle.host_io.specs.Outside.{Outside}
 
--- the disk and the sink of a name, none where it is lent
-abbrev pub disk_of : MemHost → List ℕ → Option DiskState
-disk_of h name = held_at h.disks.items name
+pub record State : Type 0 where
+  pub moment : ℕ
+  -- what it holds under each name, or lent
+  pub disks : List (Named DiskState)
+  pub sinks : List (Named SinkState)
+  pub asks : List Ask
+  -- the takes and makes that are to fail, by their number from 1
+  pub fails : List ℕ
+  -- the puts that are to fail, by the name of the sink and their number from 1
+  pub put_fails : List PutFail
+  -- the takes and makes so far
+  pub takes : ℕ
+  pub faults : ℕ
+  pub absent : ℕ
 
-abbrev pub sink_of : MemHost → List ℕ → Option SinkState
-sink_of h name = held_at h.sinks.items name
-
--- the asks so far
-abbrev pub asks_of : MemHost → List Ask
-asks_of h = h.asks.items
-
--- the takes and makes that are to fail, and how many there were
-abbrev pub fails_of : MemHost → List ℕ
-fails_of h = h.fails.items
-
-abbrev pub takes_of : MemHost → ℕ
-takes_of h = h.takes
-
--- the puts that are to fail, by the name of the sink and their number
-abbrev pub put_fails_of : MemHost → List (List ℕ × ℕ)
-put_fails_of h = map (λ f. (f.sink, f.k)) h.put_fails.items
+-- a host at this moment that holds nothing
+abbrev pub new_state : ℕ → State
+new_state moment = record {
+  moment = moment;
+  disks = [];
+  sinks = [];
+  asks = [];
+  fails = [];
+  put_fails = [];
+  takes = 0;
+  faults = 0;
+  absent = 0;
+}
 
 -- the number of a put that is to fail, if it is of the sink of this name
 abbrev pub put_of_sink : List ℕ → PutFail → List ℕ
 put_of_sink name f = if bytes_eq f.sink name then f.k ∷ [] else []
 
 -- the puts that are to fail of the sink of this name, by their number
-abbrev pub puts_to_fail : MemHost → List ℕ → List ℕ
-puts_to_fail h name = flat_map (put_of_sink name) h.put_fails.items
+abbrev pub puts_to_fail : List PutFail → List ℕ → List ℕ
+puts_to_fail put_fails name = flat_map (put_of_sink name) put_fails
 
--- but for its disks the host is as it was
-pub record SameButDisks (old new : MemHost) : Type 0 where
-  pub sinks : new.sinks ≡ old.sinks
-  pub asks : asks_of new ≡ asks_of old
-  pub fails : fails_of new ≡ fails_of old
-  pub put_fails : put_fails_of new ≡ put_fails_of old
-  pub takes : takes_of new ≡ takes_of old
-  pub moment : new.moment ≡ old.moment
-  pub faults : new.faults ≡ old.faults
-  pub absent : new.absent ≡ old.absent
+-- what it tells of the outside
+abbrev pub outside_of : State → Outside
+outside_of s = record {
+  moment = Some s.moment;
+  asks = Some s.asks;
+  holds = Some (record { disks = λ q. place_map disk_told (places_of s.disks q); sinks = λ q. place_map sink_told (places_of s.sinks q) });
+  faults = s.faults;
+  absent = s.absent;
+}
 
--- what it holds and listed stays
-pub record SameHoldings (old new : MemHost) : Type 0 where
-  pub disks : new.disks ≡ old.disks
-  pub sinks : new.sinks ≡ old.sinks
-  pub asks : asks_of new ≡ asks_of old
-  pub takes : takes_of new ≡ takes_of old
-  pub moment : new.moment ≡ old.moment
-  pub faults : new.faults ≡ old.faults
-  pub absent : new.absent ≡ old.absent
+-- a new disk of so many sectors of zeros, whose calls don't fail
+abbrev pub zeros_of : ℕ → DiskState
+zeros_of sectors = new_disk (replicate (512 * sectors) 0) []
 
--- the moment is this, and nothing is held, listed or to fail
-pub record IsNew (moment : ℕ) (h : MemHost) : Type 0 where
-  pub now : h.moment ≡ moment
-  pub disks : h.disks.items ≡ []
-  pub sinks : h.sinks.items ≡ []
-  pub asks : asks_of h ≡ []
-  pub fails : fails_of h ≡ []
-  pub put_fails : put_fails_of h ≡ []
-  pub takes : takes_of h ≡ 0
-  pub faults : h.faults ≡ 0
-  pub absent : h.absent ≡ 0
+-- the disk that is there; where there is none, a new one
+abbrev pub there_or_zeros : Option DiskState → (sectors : ℕ) → DiskState
+there_or_zeros there sectors = unwrap_or there (zeros_of sectors)
 
--- but for its count of takes and the room of its list, the host is as it was
-pub record IsSameHost (old new : MemHost) : Type 0 where
-  pub disks : new.disks ≡ old.disks
-  pub sinks : new.sinks ≡ old.sinks
-  pub asks : asks_of new ≡ asks_of old
-  pub fails : fails_of new ≡ fails_of old
-  pub put_fails : new.put_fails ≡ old.put_fails
-  pub moment : new.moment ≡ old.moment
-  pub faults : new.faults ≡ old.faults
-  pub absent : new.absent ≡ old.absent
-
--- the take failed, or memory was wanted
+-- the take failed, or memory ran out
 abbrev pub FailedOrMem : {T : Type 0} → Result T HostError → Type 0
 FailedOrMem {T = T} result = (result ≡ Err Failed) ⊎ (result ≡ Err Mem)

@@ -1,6 +1,7 @@
 -- A sink in memory, as its calls see it.
-use Rattle.std.specs.Prelude.{ℕ, List, [], ◌++◌}
+use Rattle.std.specs.Prelude.{ℕ, List, [], ◌++◌, Some}
 use Rattle.lufs_base.specs.Causes.{counted}
+use Rattle.host_io.specs.Outside.{SinkTold}
 
 pub record State : Type 0 where
   pub bytes : List ℕ
@@ -8,7 +9,7 @@ pub record State : Type 0 where
   pub fails : List ℕ
   pub puts : ℕ
   pub faults : ℕ
-  -- those that failed for want of memory
+  -- those that failed since memory ran out
   pub starved : ℕ
 
 abbrev pub new_state : List ℕ → State
@@ -22,3 +23,7 @@ failed_put s = record s { puts = counted s.puts; faults = counted s.faults }
 
 abbrev pub starved_put : State → State
 starved_put s = record s { puts = counted s.puts; faults = counted s.faults; starved = counted s.starved }
+
+-- what it tells as a sink
+abbrev pub told_of : State → SinkTold
+told_of s = record { held = Some s.bytes; faults = s.faults }

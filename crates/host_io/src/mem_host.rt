@@ -1,9 +1,14 @@
-ghost use Rattle.std.specs.Prelude.{◌≡◌, ◌≢◌, ◌<◌, ◌*◌, ◌∷◌, ◌++◌, [], length, replicate, OnOk, OnErr, IsTrue, Contains, ◌↔◌, IfOk};
-ghost use Rattle.std.specs.Option.{option_copied, option_map};
+ghost use Rattle.std.specs.Prelude.{◌≡◌, ◌≢◌, ◌<◌, ◌∷◌, ◌++◌, [], OnOk, OnErr, Contains, IfOk, Some, None, Err, IsSome, vec_len, vec_capacity, is_ok, if◌then◌else◌};
+ghost use Rattle.std.specs.Option.{option_copied, option_map, ForSome};
 ghost use Rattle.lufs_base.specs.Causes.{counted};
-ghost use Rattle.host_io.specs.Named.{held_at, lent_at};
-ghost use Rattle.sector_disk.specs.MemDisk.{new_state as new_disk};
-ghost use Rattle.host_io.specs.declared.host.HostError.TheVariants.{Mem, Failed};
+ghost use Rattle.sector_disk.specs.MemDisk.{told_of as disk_told};
+ghost use Rattle.host_io.specs.MemSink.{new_state as new_sink, told_of as sink_told};
+ghost use Rattle.host_io.specs.MemHost.{new_state, puts_to_fail, zeros_of, there_or_zeros, outside_of, FailedOrMem};
+ghost use Rattle.host_io.specs.Named.{places_of};
+ghost use Rattle.host_io.specs.Places.{here, lent, here_of, with_place};
+ghost use Rattle.host_io.specs.Outside.{disk_of, answer_of, after_ask, with_disk, with_sink, IsLentDisk, IsLentSink, StartsAs, empty_sink};
+ghost use Rattle.host_io.specs.declared.host.HostError.TheVariants.{Missing, Failed};
+ghost use Rattle.host_io.specs.declared.host.AskKind.TheVariants.{TakeDisk, MakeDisk, TakeSink};
 
 use crate::mem_sink::is_named;
 use crate::named::{Named, find, give_back, lend, lend_new};
@@ -11,6 +16,7 @@ use crate::{Ask, AskAnswer, AskKind, Host, HostError, MemSink};
 use lufs_base::{Bytes, Mem};
 use sector_disk::MemDisk;
 use std::alloc::Global;
+use std::marker::Model;
 
 // The k-th put of a sink, which is to fail.
 #[derive(Debug, Drop)]
@@ -35,22 +41,90 @@ pub struct MemHost {
     absent: u64,
 }
 
+impl Model for MemHost {
+    ghost use Rattle.host_io.specs.MemHost.{State};
+
+    ghost Value = { State };
+
+    ghost view = { λ h. record {
+      moment = h.moment;
+      disks = h.disks.items;
+      sinks = h.sinks.items;
+      asks = h.asks.items;
+      fails = h.fails.items;
+      put_fails = h.put_fails.items;
+      takes = h.takes;
+      faults = h.faults;
+      absent = h.absent;
+    } };
+}
+
 // A disk of so many sectors of zeros, whose calls don't fail.
 fn zero_disk(alloc: Global, sectors: u64) -> Result<MemDisk, Mem>
-    ensures { IfOk result (λ d. d ≡ new_disk (replicate (512 * sectors) 0) []) }
+    ensures { IfOk result (λ disk. disk ≡ zeros_of sectors) }
 {
     let bytes = sectors.checked_mul(512).ok_or(Mem)?;
     let image = vec![in alloc; 0u8; usize::try_from(bytes).map_err(|_| Mem)?]?;
     Ok(MemDisk::new(image, Vec::new(alloc)))
 }
 
-impl MemHost {
-    ghost use Rattle.std.specs.Prelude.{vec_len, vec_capacity, Some, is_ok, if◌then◌else◌, ℕ, List};
-    ghost use Rattle.host_io.specs.MemHost.{disk_of, sink_of, fails_of, put_fails_of, puts_to_fail, takes_of, IsNew, SameButDisks, SameHoldings, IsSameHost};
+// Lends the disk of that name as it is, or one of so many sectors of zeros where there is none. An `Err` changes
+// nothing.
+fn lend_or_make(
+    alloc: Global,
+    disks: &mut Vec<Named<MemDisk>>,
+    name: &[u8],
+    sectors: u64,
+) -> Result<MemDisk, Mem>
+    ensures value { IfOk result (λ disk. disk ≡ there_or_zeros (here_of (places_of disks.old.items name.now)) sectors) }
+    ensures ok { OnOk result (places_of disks.new.items ≡ with_place (places_of disks.old.items) name.now lent) }
+    ensures err { OnErr result (disks.new.items ≡ disks.old.items) }
+{
+    match lend(disks, name) {
+        Some(disk) => Ok(disk),
+        None => {
+            let disk = zero_disk(alloc, sectors)?;
+            lend_new(alloc, disks, name)?;
+            Ok(disk)
+        }
+    }
+}
 
+// Makes room in the list for an ask of this name.
+fn make_room(alloc: Global, asks: &mut Vec<Ask>, name: &str) -> Result<Bytes, Mem>
+    ensures name { IfOk result (λ kept. kept ≡ name.now) }
+    ensures room { OnOk result (vec_len asks.new < vec_capacity asks.new) }
+    ensures same { asks.new.items ≡ asks.old.items }
+{
+    asks.reserve(1)?;
+    Bytes::from_slice(alloc, name.as_bytes())
+}
+
+// Lists an ask with its answer, for which there is room.
+fn list(asks: &mut Vec<Ask>, kind: AskKind, name: Bytes, answer: AskAnswer)
+    requires { vec_len asks.old < vec_capacity asks.old }
+    ensures { asks.new.items ≡ asks.old.items ++ record { kind = kind; name = name; answer = answer } ∷ [] }
+{
+    asks.push_reserved(Ask { kind, name, answer });
+}
+
+// The numbers of the puts that are to fail, of the sink of that name.
+fn put_fails_of(alloc: Global, put_fails: &[PutFail], name: &str) -> Result<Vec<u64>, Mem>
+    ensures { IfOk result (λ fails. fails.items ≡ puts_to_fail put_fails.now name.now) }
+{
+    let mut fails = Vec::new(alloc);
+    for fail in put_fails {
+        if fail.sink.as_slice() == name.as_bytes() {
+            fails.push(fail.k)?;
+        }
+    }
+    Ok(fails)
+}
+
+impl MemHost {
     /// A host that holds nothing, at this moment, in seconds since 1970.
     pub fn new(alloc: Global, moment: u64) -> Self
-        ensures { IsNew moment result }
+        ensures { result ≡ new_state moment }
     {
         MemHost {
             alloc,
@@ -68,10 +142,9 @@ impl MemHost {
 
     /// Holds the disk under the name, in place of an older one. An `Err` changes nothing.
     pub fn add_disk(&mut self, name: &str, disk: MemDisk) -> Result<(), Mem>
-        ensures ok { OnOk result (disk_of self.new name.now ≡ Some disk) }
-        ensures others { (q : List ℕ) → q ≢ name.now → disk_of self.new q ≡ disk_of self.old q }
-        ensures err { OnErr result (disk_of self.new ≡ disk_of self.old) }
-        ensures rest { SameButDisks self.old self.new }
+        ensures ok { OnOk result (places_of self.new.disks ≡ with_place (places_of self.old.disks) name.now (here disk)) }
+        ensures rest { self.new ≡ record self.old { disks = self.new.disks } }
+        ensures err { OnErr result (self.new ≡ self.old) }
     {
         lend_new(self.alloc, &mut self.disks, name.as_bytes())?;
         give_back(&mut self.disks, name.as_bytes(), disk);
@@ -80,9 +153,7 @@ impl MemHost {
 
     /// The k-th call that takes or makes something, from 1, is to fail.
     pub fn fail_host(&mut self, k: u64) -> Result<(), Mem>
-        ensures fails { fails_of self.new ≡ (if is_ok result then fails_of self.old ++ k ∷ [] else fails_of self.old) }
-        ensures puts { put_fails_of self.new ≡ put_fails_of self.old }
-        ensures rest { SameHoldings self.old self.new }
+        ensures { self.new ≡ (if is_ok result then record self.old { fails = self.old.fails ++ k ∷ [] } else self.old) }
     {
         self.fails.push(k)?;
         Ok(())
@@ -90,97 +161,36 @@ impl MemHost {
 
     /// The k-th put, from 1, of the sink of that name is to fail, from its next take on.
     pub fn fail_put(&mut self, name: &str, k: u64) -> Result<(), Mem>
-        ensures puts { put_fails_of self.new ≡ (if is_ok result then put_fails_of self.old ++ (name.now, k) ∷ [] else put_fails_of self.old) }
-        ensures fails { fails_of self.new ≡ fails_of self.old }
-        ensures rest { SameHoldings self.old self.new }
+        ensures { self.new ≡ (if is_ok result then record self.old { put_fails = self.old.put_fails ++ record { sink = name.now; k = k } ∷ [] } else self.old) }
     {
         let sink = Bytes::from_slice(self.alloc, name.as_bytes())?;
         self.put_fails.push(PutFail { sink, k })?;
         Ok(())
     }
 
-    // Counts a take, and makes room for its place in the list.
-    fn begin(&mut self, name: &str) -> Result<Bytes, Mem>
-        ensures name { IfOk result (λ kept. kept ≡ name.now) }
-        ensures room { OnOk result (vec_len self.new.asks < vec_capacity self.new.asks) }
-        ensures same { IsSameHost self.old self.new }
-        ensures takes { takes_of self.new ≡ counted (takes_of self.old) }
-    {
-        self.takes = self.takes.saturating_add(1);
-        self.asks.reserve(1)?;
-        Bytes::from_slice(self.alloc, name.as_bytes())
-    }
-
-    // Lists an answer, for which there is room.
-    fn list(&mut self, kind: AskKind, name: Bytes, answer: AskAnswer)
-        requires { vec_len self.old.asks < vec_capacity self.old.asks }
-        ensures asks { self.new.asks.items ≡ self.old.asks.items ++ record { kind = kind; name = name; answer = answer } ∷ [] }
-        ensures rest { (self.new.disks ≡ self.old.disks) × (self.new.sinks ≡ self.old.sinks) × (self.new.moment ≡ self.old.moment) × (self.new.faults ≡ self.old.faults) × (self.new.absent ≡ self.old.absent) }
-    {
-        self.asks.push_reserved(Ask { kind, name, answer });
-    }
-
-    // The numbers of the puts that are to fail, of the sink of that name.
-    fn put_fails(&self, name: &str) -> Result<Vec<u64>, Mem>
-        ensures { IfOk result (λ fails. fails.items ≡ puts_to_fail self.now name.now) }
-    {
-        let mut fails = Vec::new(self.alloc);
-        for fail in &self.put_fails {
-            if fail.sink.as_slice() == name.as_bytes() {
-                fails.push(fail.k)?;
-            }
-        }
-        Ok(fails)
-    }
-
     /// The bytes of the sink of that name, if there is one that isn't lent.
     pub fn sink(&self, name: &str) -> Option<&[u8]>
-        ensures { option_copied result ≡ option_map (λ k. k.bytes) (sink_of self.now name.now) }
+        ensures { option_copied result ≡ option_map (λ k. k.bytes) (here_of (places_of self.now.sinks name.now)) }
     {
         Some(find(&self.sinks, name.as_bytes())?.bytes())
     }
 
     /// The disk of that name, if there is one that isn't lent.
     pub fn disk(&self, name: &str) -> Option<&MemDisk>
-        ensures { option_copied result ≡ disk_of self.now name.now }
+        ensures { option_copied result ≡ here_of (places_of self.now.disks name.now) }
     {
         find(&self.disks, name.as_bytes())
     }
 }
 
 impl Host for MemHost {
-    ghost use Rattle.std.specs.Prelude.{true, None, Some, Err, IfSome, IsSome, ℕ, List};
-    ghost use Rattle.host_io.specs.Outside.{HasHostCause, IsAsked, IsZeroDisk};
-    ghost use Rattle.volume_model.specs.Image.{sectors_of};
-    ghost use Rattle.sector_disk.specs.MemDisk.{record_of};
-    ghost use Rattle.host_io.specs.declared.host.AskKind.TheVariants.{TakeDisk, MakeDisk, TakeSink};
-    ghost use Rattle.host_io.specs.declared.host.HostError.TheVariants.{Missing};
-    ghost use Rattle.std.proofs.Common.{rules};
-    ghost use Rattle.host_io.specs.Named.{held_at, lent_at};
-    ghost use Rattle.host_io.specs.MemHost.{fails_of, takes_of, puts_to_fail, FailedOrMem};
-    ghost use Rattle.host_io.specs.MemSink.{new_state};
+    ghost use Rattle.host_io.specs.MemHost.{outside_of};
 
     type D = MemDisk;
 
     type K = MemSink;
 
-    ghost faults = { λ h. h.faults };
-
-    ghost absent = { λ h. h.absent };
-
-    ghost moment = { λ h. Some h.moment };
-
-    ghost asks = { λ h. Some h.asks.items };
-
-    ghost tells = { λ _. true };
-
-    ghost disk_at = { λ h q. held_at h.disks.items q };
-
-    ghost disk_lent = { λ h q. lent_at h.disks.items q };
-
-    ghost sink_at = { λ h q. held_at h.sinks.items q };
-
-    ghost sink_lent = { λ h q. lent_at h.sinks.items q };
+    ghost outside = { λ h. outside_of h };
 
     fn faults(&self) -> u64 {
         self.faults
@@ -196,104 +206,88 @@ impl Host for MemHost {
 
     /// Fails exactly where the take was named.
     fn take_disk(&mut self, name: &str) -> Result<MemDisk, HostError>
-        ensures named { Contains (fails_of self.old) (counted (takes_of self.old)) → FailedOrMem result }
-        ensures only_named { result ≡ Err Failed → Contains (fails_of self.old) (counted (takes_of self.old)) }
-        ensures value { IfSome (held_at self.old.disks.items name.now) (λ disk. IfOk result (λ d. d ≡ disk)) }
-        ensures held { OnOk result (IsTrue true → IsSome (held_at self.old.disks.items name.now)) }
-        ensures missing { result ≡ Err Missing → held_at self.old.disks.items name.now ≡ None }
-        ensures lent { OnOk result (IsTrue (lent_at self.new.disks.items name.now)) }
-        ensures other_disks { (q : List ℕ) → q ≢ name.now → (held_at self.new.disks.items q ≡ held_at self.old.disks.items q) × (lent_at self.new.disks.items q ≡ lent_at self.old.disks.items q) }
-        ensures sinks { self.new.sinks ≡ self.old.sinks }
-        ensures err { OnErr result ((held_at self.new.disks.items ≡ held_at self.old.disks.items) × (lent_at self.new.disks.items ≡ lent_at self.old.disks.items)) }
-        ensures moment { self.new.moment ≡ self.old.moment }
-        ensures asks { IsAsked TakeDisk name.now result (Some self.old.asks.items) (Some self.new.asks.items) }
-        ensures cause { HasHostCause self.old.faults self.new.faults self.old.absent self.new.absent result }
+        ensures named { Contains self.old.fails (counted self.old.takes) → FailedOrMem result }
+        ensures only_named { result ≡ Err Failed → Contains self.old.fails (counted self.old.takes) }
+        ensures value { IfOk result (λ disk. here_of (places_of self.old.disks name.now) ≡ Some disk) }
+        ensures missing { result ≡ Err Missing → here_of (places_of self.old.disks name.now) ≡ None }
+        ensures given { IfOk result (λ disk. IsSome (outside_of self.old).holds → disk_of (outside_of self.old) name.now ≡ Some (disk_told disk)) }
+        ensures told_missing { result ≡ Err Missing → disk_of (outside_of self.old) name.now ≡ None }
+        ensures after { outside_of self.new ≡ after_ask TakeDisk name.now (answer_of result) (outside_of self.old) }
     {
-        let kept = self.begin(name)?;
+        self.takes = self.takes.saturating_add(1);
+        let kept = make_room(self.alloc, &mut self.asks, name)?;
         if is_named(&self.fails, self.takes) {
             self.faults = self.faults.saturating_add(1);
-            self.list(AskKind::TakeDisk, kept, AskAnswer::Failed);
+            list(&mut self.asks, AskKind::TakeDisk, kept, AskAnswer::Failed);
             return Err(HostError::Failed);
         }
         let Some(disk) = lend(&mut self.disks, name.as_bytes()) else {
             self.absent = self.absent.saturating_add(1);
-            self.list(AskKind::TakeDisk, kept, AskAnswer::Missing);
+            list(&mut self.asks, AskKind::TakeDisk, kept, AskAnswer::Missing);
             return Err(HostError::Missing);
         };
-        self.list(AskKind::TakeDisk, kept, AskAnswer::Given);
+        list(&mut self.asks, AskKind::TakeDisk, kept, AskAnswer::Given);
         Ok(disk)
     }
 
     /// Fails exactly where the make was named.
     fn make_disk(&mut self, name: &str, sectors: u64) -> Result<MemDisk, HostError>
-        ensures named { Contains (fails_of self.old) (counted (takes_of self.old)) → FailedOrMem result }
-        ensures only_named { result ≡ Err Failed → Contains (fails_of self.old) (counted (takes_of self.old)) }
-        ensures value { IfSome (held_at self.old.disks.items name.now) (λ disk. IfOk result (λ d. d ≡ disk)) }
-        ensures new { held_at self.old.disks.items name.now ≡ None → IfOk result (λ d. d ≡ new_disk (replicate (512 * sectors) 0) []) }
-        ensures made { IsTrue true → held_at self.old.disks.items name.now ≡ None → IfOk result (λ d.
-            IsZeroDisk (sectors_of d.image) (Some d.image) (Some (record_of d)) (length d.calls) d.faults d.failed_at sectors) }
+        ensures named { Contains self.old.fails (counted self.old.takes) → FailedOrMem result }
+        ensures only_named { result ≡ Err Failed → Contains self.old.fails (counted self.old.takes) }
+        ensures value { IfOk result (λ disk. disk ≡ there_or_zeros (here_of (places_of self.old.disks name.now)) sectors) }
+        ensures given { IfOk result (λ disk. IsSome (outside_of self.old).holds → StartsAs (disk_of (outside_of self.old) name.now) sectors (disk_told disk)) }
         ensures not_missing { result ≢ Err Missing }
-        ensures lent { OnOk result (IsTrue (lent_at self.new.disks.items name.now)) }
-        ensures other_disks { (q : List ℕ) → q ≢ name.now → (held_at self.new.disks.items q ≡ held_at self.old.disks.items q) × (lent_at self.new.disks.items q ≡ lent_at self.old.disks.items q) }
-        ensures sinks { self.new.sinks ≡ self.old.sinks }
-        ensures err { OnErr result ((held_at self.new.disks.items ≡ held_at self.old.disks.items) × (lent_at self.new.disks.items ≡ lent_at self.old.disks.items)) }
-        ensures moment { self.new.moment ≡ self.old.moment }
-        ensures asks { IsAsked MakeDisk name.now result (Some self.old.asks.items) (Some self.new.asks.items) }
-        ensures cause { HasHostCause self.old.faults self.new.faults self.old.absent self.new.absent result }
+        ensures after { outside_of self.new ≡ after_ask MakeDisk name.now (answer_of result) (outside_of self.old) }
     {
-        let kept = self.begin(name)?;
+        self.takes = self.takes.saturating_add(1);
+        let kept = make_room(self.alloc, &mut self.asks, name)?;
         if is_named(&self.fails, self.takes) {
             self.faults = self.faults.saturating_add(1);
-            self.list(AskKind::MakeDisk, kept, AskAnswer::Failed);
+            list(&mut self.asks, AskKind::MakeDisk, kept, AskAnswer::Failed);
             return Err(HostError::Failed);
         }
-        let disk = match lend(&mut self.disks, name.as_bytes()) {
-            Some(disk) => disk,
-            None => {
-                let disk = zero_disk(self.alloc, sectors)?;
-                lend_new(self.alloc, &mut self.disks, name.as_bytes())?;
-                disk
-            }
-        };
-        self.list(AskKind::MakeDisk, kept, AskAnswer::Given);
+        let disk = lend_or_make(self.alloc, &mut self.disks, name.as_bytes(), sectors)?;
+        list(&mut self.asks, AskKind::MakeDisk, kept, AskAnswer::Given);
         Ok(disk)
     }
 
-    fn give_disk(&mut self, name: &str, disk: MemDisk) {
+    fn give_disk(&mut self, name: &str, disk: MemDisk)
+        requires { ForSome (outside_of self.old).holds (IsLentDisk name.now) }
+        ensures held { places_of self.new.disks ≡ with_place (places_of self.old.disks) name.now (here disk) }
+        ensures rest { self.new ≡ record self.old { disks = self.new.disks } }
+        ensures told { outside_of self.new ≡ with_disk name.now (disk_told disk) (outside_of self.old) }
+    {
         give_back(&mut self.disks, name.as_bytes(), disk);
     }
 
     /// Fails exactly where the take was named.
     fn take_sink(&mut self, name: &str) -> Result<MemSink, HostError>
-        ensures named { Contains (fails_of self.old) (counted (takes_of self.old)) → FailedOrMem result }
-        ensures only_named { result ≡ Err Failed → Contains (fails_of self.old) (counted (takes_of self.old)) }
-        ensures made { IfOk result (λ k. k ≡ new_state (puts_to_fail self.old name.now)) }
-        ensures empty { IsTrue true → IfOk result (λ k. Some k.bytes ≡ Some []) }
-        ensures fresh { IsTrue true → IfOk result (λ k. k.faults ≡ 0) }
+        ensures named { Contains self.old.fails (counted self.old.takes) → FailedOrMem result }
+        ensures only_named { result ≡ Err Failed → Contains self.old.fails (counted self.old.takes) }
+        ensures made { IfOk result (λ sink. sink ≡ new_sink (puts_to_fail self.old.put_fails name.now)) }
+        ensures given { IfOk result (λ sink. IsSome (outside_of self.old).holds → sink_told sink ≡ empty_sink) }
         ensures not_missing { result ≢ Err Missing }
-        ensures lent { OnOk result (IsTrue (lent_at self.new.sinks.items name.now)) }
-        ensures other_sinks { (q : List ℕ) → q ≢ name.now → (held_at self.new.sinks.items q ≡ held_at self.old.sinks.items q) × (lent_at self.new.sinks.items q ≡ lent_at self.old.sinks.items q) }
-        ensures disks { self.new.disks ≡ self.old.disks }
-        ensures err { OnErr result ((held_at self.new.sinks.items ≡ held_at self.old.sinks.items) × (lent_at self.new.sinks.items ≡ lent_at self.old.sinks.items)) }
-        ensures moment { self.new.moment ≡ self.old.moment }
-        ensures asks { IsAsked TakeSink name.now result (Some self.old.asks.items) (Some self.new.asks.items) }
-        ensures cause { HasHostCause self.old.faults self.new.faults self.old.absent self.new.absent result }
+        ensures after { outside_of self.new ≡ after_ask TakeSink name.now (answer_of result) (outside_of self.old) }
     {
-        let kept = self.begin(name)?;
+        self.takes = self.takes.saturating_add(1);
+        let kept = make_room(self.alloc, &mut self.asks, name)?;
         if is_named(&self.fails, self.takes) {
             self.faults = self.faults.saturating_add(1);
-            self.list(AskKind::TakeSink, kept, AskAnswer::Failed);
+            list(&mut self.asks, AskKind::TakeSink, kept, AskAnswer::Failed);
             return Err(HostError::Failed);
         }
-        let sink = MemSink::new(self.put_fails(name)?);
+        let sink = MemSink::new(put_fails_of(self.alloc, &self.put_fails, name)?);
         lend_new(self.alloc, &mut self.sinks, name.as_bytes())?;
-        self.list(AskKind::TakeSink, kept, AskAnswer::Given);
+        list(&mut self.asks, AskKind::TakeSink, kept, AskAnswer::Given);
         Ok(sink)
     }
 
-    fn give_sink(&mut self, name: &str, sink: MemSink) {
+    fn give_sink(&mut self, name: &str, sink: MemSink)
+        requires { ForSome (outside_of self.old).holds (IsLentSink name.now) }
+        ensures held { places_of self.new.sinks ≡ with_place (places_of self.old.sinks) name.now (here sink) }
+        ensures rest { self.new ≡ record self.old { sinks = self.new.sinks } }
+        ensures told { outside_of self.new ≡ with_sink name.now (sink_told sink) (outside_of self.old) }
+    {
         give_back(&mut self.sinks, name.as_bytes(), sink);
     }
-
-    ghost told = { λ h q. (Prim.search rules, Prim.search rules) };
 }

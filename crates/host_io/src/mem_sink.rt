@@ -1,7 +1,7 @@
 ghost use Rattle.std.specs.Prelude.{◌≡◌, ◌≤◌, ◌⊎◌, ◌+◌, [], ◌++◌, Some, IsErr, OnOk, OnErr, Contains, IsTrue, ◌↔◌};
-ghost use Rattle.lufs_base.specs.Causes.{HasCause, counted};
+ghost use Rattle.lufs_base.specs.Causes.{counted};
 ghost use Rattle.host_io.specs.Outside.{Puts};
-ghost use Rattle.host_io.specs.MemSink.{new_state, after_put, failed_put, starved_put};
+ghost use Rattle.host_io.specs.MemSink.{new_state, after_put, failed_put, starved_put, told_of};
 
 use crate::{Sink, SinkFault};
 use std::marker::Model;
@@ -45,7 +45,7 @@ impl MemSink {
         self.bytes.as_slice()
     }
 
-    /// How many puts failed for want of memory.
+    /// How many puts failed since memory ran out.
     pub fn starved(&self) -> u64
         ensures { result ≡ self.now.starved }
     {
@@ -61,23 +61,20 @@ pub(crate) fn is_named(fails: &[u64], call: u64) -> bool
 }
 
 impl Sink for MemSink {
-    ghost use Rattle.std.specs.Prelude.{Some};
+    ghost use Rattle.host_io.specs.MemSink.{told_of};
 
-    ghost held = { λ k. Some k.bytes };
-
-    ghost faults = { λ k. k.faults };
+    ghost told = { λ k. told_of k };
 
     fn faults(&self) -> u64 {
         self.faults
     }
 
-    /// Fails exactly where the call was named or memory was wanted.
+    /// Fails exactly where the call was named or memory ran out.
     fn put(&mut self, bytes: &[u8]) -> Result<(), SinkFault>
         ensures named { Contains self.old.fails (counted self.old.puts) → IsErr result }
         ensures ok { OnOk result (self.new ≡ after_put bytes.now self.old) }
         ensures err { OnErr result ((Contains self.old.fails (counted self.old.puts) × (self.new ≡ failed_put self.old)) ⊎ (self.new ≡ starved_put self.old)) }
-        ensures bytes { Puts bytes.now result (Some self.old.bytes) (Some self.new.bytes) }
-        ensures cause { HasCause self.old.faults self.new.faults result }
+        ensures told { Puts bytes.now result (told_of self.old) (told_of self.new) }
     {
         self.puts = self.puts.saturating_add(1);
         if is_named(&self.fails, self.puts) {

@@ -1,6 +1,7 @@
-ghost use Rattle.std.specs.Prelude.{◌≡◌, ◌<◌, true, false, Some, None, length, is_none, IfSome, MatchOption, OnOk, OnErr, IfOk, IfErr, IfNone, OnSome};
+ghost use Rattle.std.specs.Prelude.{◌≡◌, ◌<◌, length, IfSome, MatchOption, OnOk, OnErr, IfOk, IfErr, IfNone, OnSome};
 ghost use Rattle.std.specs.Option.{option_copied};
-ghost use Rattle.host_io.specs.Named.{IsFirst, IsAbsent, OthersStay, held_at, lent_at};
+ghost use Rattle.host_io.specs.Places.{here, lent, nothing, here_of, with_place};
+ghost use Rattle.host_io.specs.Named.{IsFirst, IsAbsent, place_with, places_of};
 
 use lufs_base::{Bytes, Mem};
 use std::alloc::Global;
@@ -28,7 +29,7 @@ fn place_of<T>(entries: &[Named<T>], name: &[u8]) -> Option<usize>
 
 /// What the name stands for.
 pub(crate) fn find<'a, T>(entries: &'a [Named<T>], name: &[u8]) -> Option<&'a T>
-    ensures { option_copied result ≡ held_at entries.now name.now }
+    ensures { option_copied result ≡ here_of (places_of entries.now name.now) }
 {
     let i = place_of(entries, name)?;
     entries[i].held.as_ref()
@@ -41,11 +42,10 @@ fn exchange<T>(
     name: &[u8],
     held: Option<T>,
 ) -> Result<Option<T>, Option<T>>
-    ensures old { IfOk result (λ old. old ≡ held_at entries.old.items name.now) }
-    ensures here { OnOk result ((held_at entries.new.items name.now ≡ held) × (lent_at entries.new.items name.now ≡ is_none held)) }
-    ensures others { OthersStay name.now entries.old.items entries.new.items }
+    ensures old { IfOk result (λ old. places_of entries.old.items name.now ≡ place_with old) }
+    ensures new { OnOk result (places_of entries.new.items ≡ with_place (places_of entries.old.items) name.now (place_with held)) }
     ensures absent { OnErr result (IsAbsent name.now entries.old.items) }
-    ensures nothing { OnErr result ((held_at entries.old.items name.now ≡ None) × (lent_at entries.old.items name.now ≡ false)) }
+    ensures none { OnErr result (places_of entries.old.items name.now ≡ nothing) }
     ensures err { IfErr result (λ given. (given ≡ held) × (entries.new.items ≡ entries.old.items)) }
 {
     match place_of(entries, name) {
@@ -58,24 +58,29 @@ fn exchange<T>(
 pub(crate) fn lend<T>(entries: &mut Vec<Named<T>>, name: &[u8]) -> Option<T>
 where
     T: Drop,
-    ensures value { result ≡ held_at entries.old.items name.now }
-    ensures here { OnSome result (lent_at entries.new.items name.now ≡ true) }
-    ensures others { OthersStay name.now entries.old.items entries.new.items }
+    ensures value { result ≡ here_of (places_of entries.old.items name.now) }
+    ensures some { OnSome result (places_of entries.new.items ≡ with_place (places_of entries.old.items) name.now lent) }
     ensures none { IfNone result (entries.new.items ≡ entries.old.items) }
 {
     if find(entries, name).is_none() {
         return None;
     }
-    exchange(entries, name, None).ok().flatten()
+    match exchange(entries, name, None) {
+        Ok(held) => held,
+        Err(_) => None,
+    }
 }
 
 /// Puts back what was lent under the name.
 pub(crate) fn give_back<T: Drop>(entries: &mut Vec<Named<T>>, name: &[u8], given: T)
-    requires { lent_at entries.old.items name.now ≡ true }
-    ensures here { held_at entries.new.items name.now ≡ Some given }
-    ensures others { OthersStay name.now entries.old.items entries.new.items }
+    requires { places_of entries.old.items name.now ≡ lent }
+    ensures { places_of entries.new.items ≡ with_place (places_of entries.old.items) name.now (here given) }
 {
-    let _ = exchange(entries, name, Some(given));
+    match exchange(entries, name, Some(given)) {
+        Ok(_) => {}
+        // The name is lent, so there is an entry of it.
+        Err(_) => unreachable!(),
+    }
 }
 
 /// Makes the name one that is lent, and drops what it stood for. An `Err` changes nothing.
@@ -84,8 +89,7 @@ pub(crate) fn lend_new<T: Drop>(
     entries: &mut Vec<Named<T>>,
     name: &[u8],
 ) -> Result<(), Mem>
-    ensures here { OnOk result (lent_at entries.new.items name.now ≡ true) }
-    ensures others { OthersStay name.now entries.old.items entries.new.items }
+    ensures ok { OnOk result (places_of entries.new.items ≡ with_place (places_of entries.old.items) name.now lent) }
     ensures err { OnErr result (entries.new.items ≡ entries.old.items) }
 {
     let kept = Bytes::from_slice(alloc, name)?;

@@ -2,3 +2,4 @@ pub mod RingSteps
 pub mod Listing
 pub mod RingTurn
 pub mod LogTold
+pub mod GeometryTold

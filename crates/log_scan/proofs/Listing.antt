@@ -10,9 +10,8 @@ use Rattle.lufs_base.specs.declared.geometry.Geometry.{Geometry}
 use Rattle.lufs_base.specs.declared.delta.Delta.{Delta}
 use Rattle.volume_model.specs.declared.log.Header.{Header}
 use Rattle.volume_model.specs.declared.log.Tx.{Tx}
-use Rattle.volume_model.specs.LogRun.{Run, Short, Whole, run_of, run_behind, front_of}
-use Rattle.volume_model.specs.Image.{sector, sectors_of, sectors_in}
-use Rattle.volume_model.specs.Log.{belongs_to, Transactions, Listed, BadRun, with_tx, row_of, payload_of, transactions_at, transactions_from}
+use Rattle.volume_model.specs.Log.{Run, Short, Whole, run_of, run_behind, front_of, belongs_to, Transactions, Listed, BadRun, with_tx, row_of, payload_of, transactions_at, transactions_from}
+use Rattle.volume_model.specs.Format.{sector, sectors_of, sectors_in}
 use Rattle.log_scan.proofs.RingSteps.{length-row_of}
 
 -- the transactions with these in front
@@ -31,13 +30,13 @@ with_front-push txs tx (BadRun tid place) = refl
 -- the transactions by the run at the front, whose payload is that of the row of so many sectors
 pub by_run : (g : Geometry) (h : Header) (tid at sectors more : ℕ) (rest : List (List ℕ)) (payload : List ℕ) (run : Run)
     → sectors ≡ length (row_of h.epoch tid rest) → payload ≡ payload_of (take sectors rest) → run_of g tid payload ≡ run
-    → transactions_from g h (suc more) tid at rest ≡ transactions_at run tid ((h.head + at) % ring_of g) sectors (λ _. transactions_from g h more (tid + 1) (at + sectors) (drop sectors rest))
+    → transactions_from g (ring_of g) h (suc more) tid at rest ≡ transactions_at run tid ((h.head + at) % ring_of g) sectors (λ _. transactions_from g (ring_of g) h more (tid + 1) (at + sectors) (drop sectors rest))
 unfolding transactions_from
 by_run g h tid at sectors more rest payload run count joined is =
     let row : take sectors rest ≡ row_of h.epoch tid rest = ap (λ (n : ℕ). take n rest) (count ∙ length-row_of h.epoch tid rest) in
     let found : run_of g tid (payload_of (row_of h.epoch tid rest)) ≡ run = ap (λ (l : List ℕ). run_of g tid l) (sym (joined ∙ ap payload_of row)) ∙ is in
-    ap (λ (r : Run). transactions_at r tid ((h.head + at) % ring_of g) (length (row_of h.epoch tid rest)) (λ _. transactions_from g h more (tid + 1) (at + length (row_of h.epoch tid rest)) (drop (length (row_of h.epoch tid rest)) rest))) found
-    ∙ ap (λ (n : ℕ). transactions_at run tid ((h.head + at) % ring_of g) n (λ _. transactions_from g h more (tid + 1) (at + n) (drop n rest))) (sym count)
+    ap (λ (r : Run). transactions_at r tid ((h.head + at) % ring_of g) (length (row_of h.epoch tid rest)) (λ _. transactions_from g (ring_of g) h more (tid + 1) (at + length (row_of h.epoch tid rest)) (drop (length (row_of h.epoch tid rest)) rest))) found
+    ∙ ap (λ (n : ℕ). transactions_at run tid ((h.head + at) % ring_of g) n (λ _. transactions_from g (ring_of g) h more (tid + 1) (at + n) (drop n rest))) (sym count)
 
 -- no bytes are no transaction
 pub empty_is_short : (g : Geometry) (tid : ℕ) → run_of g tid [] ≡ Short
@@ -74,24 +73,24 @@ no_row epoch tid (s ∷ rest) high are =
     cond-false (belongs_to epoch tid s) (1 + prefix_len (belongs_to epoch tid) rest) 0 (and_left (eqb (u32_at s 504) tid) (eqb (u32_at s 508) epoch) other) in
     sym (length-row_of epoch tid (s ∷ rest) ∙ none)
 
-pub no_number_above : (g : Geometry) (h : Header) (more tid at : ℕ) (rest : List (List ℕ)) → 2 ^ 32 ≤ tid → All AreBytes rest → transactions_from g h more tid at rest ≡ Listed []
+pub no_number_above : (g : Geometry) (h : Header) (more tid at : ℕ) (rest : List (List ℕ)) → 2 ^ 32 ≤ tid → All AreBytes rest → transactions_from g (ring_of g) h more tid at rest ≡ Listed []
 unfolding transactions_from
 no_number_above g h zero tid at rest high are = refl
 no_number_above g h (suc more) tid at rest high are = by_run g h tid at 0 more rest [] Short (no_row h.epoch tid rest high are) refl (empty_is_short g tid)
 
 -- the listing goes on behind the transaction at its front
 pub listing_more : (g : Geometry) (h : Header) (tid at sectors : ℕ) (txs more : List Tx) (tx : Tx) (ring : List (List ℕ)) (whole : Transactions)
-    → ((n : ℕ) → transactions_from g h (suc n) tid at (drop at ring) ≡ with_tx tx (transactions_from g h n (tid + 1) (at + sectors) (drop sectors (drop at ring))))
+    → ((n : ℕ) → transactions_from g (ring_of g) h (suc n) tid at (drop at ring) ≡ with_tx tx (transactions_from g (ring_of g) h n (tid + 1) (at + sectors) (drop sectors (drop at ring))))
     → more ≡ txs ++ tx ∷ [] → length txs < ring_of g
-    → with_front txs (transactions_from g h (suc (ring_of g - length txs)) tid at (drop at ring)) ≡ whole
-    → with_front more (transactions_from g h (suc (ring_of g - length more)) (tid + 1) (at + sectors) (drop (at + sectors) ring)) ≡ whole
+    → with_front txs (transactions_from g (ring_of g) h (suc (ring_of g - length txs)) tid at (drop at ring)) ≡ whole
+    → with_front more (transactions_from g (ring_of g) h (suc (ring_of g - length more)) (tid + 1) (at + sectors) (drop (at + sectors) ring)) ≡ whole
 listing_more g h tid at sectors txs more tx ring whole step pushed room so_far =
     let count : length more ≡ length txs + 1 = ap length pushed ∙ length_push txs tx in
     let fuel : suc (ring_of g - length more) ≡ ring_of g - length txs = omega arith in
-    ap (λ (l : List Tx). with_front l (transactions_from g h (suc (ring_of g - length more)) (tid + 1) (at + sectors) (drop (at + sectors) ring))) pushed
-    ∙ ap (λ (n : ℕ). with_front (txs ++ tx ∷ []) (transactions_from g h n (tid + 1) (at + sectors) (drop (at + sectors) ring))) fuel
-    ∙ ap (λ (l : List (List ℕ)). with_front (txs ++ tx ∷ []) (transactions_from g h (ring_of g - length txs) (tid + 1) (at + sectors) l)) (sym (drop-drop sectors at ring))
-    ∙ sym (with_front-push txs tx (transactions_from g h (ring_of g - length txs) (tid + 1) (at + sectors) (drop sectors (drop at ring))))
+    ap (λ (l : List Tx). with_front l (transactions_from g (ring_of g) h (suc (ring_of g - length more)) (tid + 1) (at + sectors) (drop (at + sectors) ring))) pushed
+    ∙ ap (λ (n : ℕ). with_front (txs ++ tx ∷ []) (transactions_from g (ring_of g) h n (tid + 1) (at + sectors) (drop (at + sectors) ring))) fuel
+    ∙ ap (λ (l : List (List ℕ)). with_front (txs ++ tx ∷ []) (transactions_from g (ring_of g) h (ring_of g - length txs) (tid + 1) (at + sectors) l)) (sym (drop-drop sectors at ring))
+    ∙ sym (with_front-push txs tx (transactions_from g (ring_of g) h (ring_of g - length txs) (tid + 1) (at + sectors) (drop sectors (drop at ring))))
     ∙ ap (λ (t : Transactions). with_front txs t) (sym (step (ring_of g - length txs)))
     ∙ so_far
 

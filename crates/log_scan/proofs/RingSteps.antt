@@ -4,7 +4,7 @@ use Rattle.std.specs.List.{prefix_len}
 use Rattle.std.proofs.lemmas.List.{length-take-le, get_or-drop, take_more, flat_map_more}
 use Rattle.std.proofs.lemmas.List.FromFn.{length-map-range_with_len, get_or-map-range_with_len}
 use Rattle.std.proofs.lemmas.List.Sums.{prefix_len-le-length, prefix_len-drop_yes, prefix_len-drop_no, prefix_len-drop_all}
-use Rattle.volume_model.specs.Image.{sector, sectors_of, sectors_in}
+use Rattle.volume_model.specs.Format.{sector, sectors_of, sectors_in}
 use Rattle.volume_model.specs.Log.{belongs_to, row_of, payload_of}
 
 pub length-sectors_in : (bytes : List ℕ) → length (sectors_in bytes) ≡ sectors_of bytes

@@ -5,11 +5,10 @@ use Rattle.std.proofs.lemmas.Bool.{cases_lt}
 use Rattle.std.proofs.lemmas.List.{append-nil, drop-drop, drop-take, drop_all, drop_at, drop-append-le, take-append-le, take-take, take_at}
 use Rattle.std.proofs.lemmas.List.FromFn.{fill_by_all}
 use borrow.Rule.Slice.PartMut.{put_mid}
-use Rattle.lufs_base.specs.Layout.{ring_of}
+use Rattle.lufs_base.specs.Layout.{ring_of, ring_place}
 use Rattle.lufs_base.specs.declared.geometry.Geometry.{Geometry}
-use Rattle.volume_model.specs.Image.{Image, sector, sectors_from, sectors_of, sectors_in}
+use Rattle.volume_model.specs.Format.{Image, sector, sectors_from, sectors_of, sectors_in}
 use Rattle.volume_model.specs.Log.{ring_from}
-use Rattle.sector_disk.specs.Disk.{Reads}
 use Rattle.log_scan.proofs.RingSteps.{length-sectors_in, get_or-sectors_in}
 
 -- a sector of joined bytes
@@ -38,8 +37,8 @@ sector_of_part image first n k below =
 
 sector_turned : (g : Geometry) (head k : ℕ) (image : Image) (front back : List ℕ) → head < ring_of g → k < ring_of g
     → length front ≡ 512 * (ring_of g - head)
-    → front ≡ sectors_from image (25 + head) (ring_of g - head) → back ≡ sectors_from image 25 head
-    → sector (front ++ back) k ≡ sector image (25 + (head + k) % ring_of g)
+    → front ≡ sectors_from image (ring_place g head) (ring_of g - head) → back ≡ sectors_from image (ring_place g 0) head
+    → sector (front ++ back) k ≡ sector image (ring_place g ((head + k) % ring_of g))
 sector_turned g head k image front back inside below size front_is back_is =
     elim (cases_lt k (ring_of g - head)) [
       | inl early ↦
@@ -64,23 +63,23 @@ sector_turned g head k image front back inside below size front_is back_is =
 
 ring_turned : (g : Geometry) (head : ℕ) (image : Image) (front back : List ℕ) → head < ring_of g
     → length front ≡ 512 * (ring_of g - head) → length back ≡ 512 * head
-    → front ≡ sectors_from image (25 + head) (ring_of g - head) → back ≡ sectors_from image 25 head
-    → sectors_in (front ++ back) ≡ ring_from g head (λ place. sector image (25 + place))
+    → front ≡ sectors_from image (ring_place g head) (ring_of g - head) → back ≡ sectors_from image (ring_place g 0) head
+    → sectors_in (front ++ back) ≡ ring_from (ring_of g) head (λ place. sector image (ring_place g place))
 ring_turned g head image front back inside front_size back_size front_is back_is =
     let count : sectors_of (front ++ back) ≡ ring_of g = omega (arith, length-append front back) in
-    fill_by_all (λ (k : ℕ). sector image (25 + (head + k) % ring_of g)) (sectors_in (front ++ back)) (ring_of g) [] (length-sectors_in (front ++ back) ∙ count)
+    fill_by_all (λ (k : ℕ). sector image (ring_place g ((head + k) % ring_of g))) (sectors_in (front ++ back)) (ring_of g) [] (length-sectors_in (front ++ back) ∙ count)
     (λ k below.
     get_or-sectors_in (front ++ back) k [] (omega (arith, count))
     ∙ sector_turned g head k image front back inside below front_size front_is back_is)
 
-pub ring_read : {T E : Type 0} (g : Geometry) (head turn k : ℕ) (present : Option Image) (front rest back : List ℕ) (result : Result T E) → head < ring_of g
-    → turn ≡ 512 * (ring_of g - head) → length front ≡ turn → length back ≡ 512 * head → length (front ++ rest) ≤ turn + k
-    → IfSome present (λ image. front ≡ sectors_from image (25 + head) (length front / 512))
-    → Reads present 25 result back
-    → IfSome present (λ image. OnOk result (sectors_in (put_mid turn k (front ++ rest) back) ≡ ring_from g head (λ place. sector image (25 + place))))
-ring_read g head turn k None front rest back result inside turn_is front_size back_size whole front_is back_is = tt
-ring_read g head turn k (Some image) front rest back (Err e) inside turn_is front_size back_size whole front_is back_is = tt
-ring_read g head turn k (Some image) front rest back (Ok x) inside turn_is front_size back_size whole front_is back_is =
+pub ring_read : {T E : Type 0} (g : Geometry) (head turn k here start : ℕ) (present : Option Image) (front rest back : List ℕ) (result : Result T E) → head < ring_of g
+    → turn ≡ 512 * (ring_of g - head) → length front ≡ turn → length back ≡ 512 * head → length (front ++ rest) ≤ turn + k → here ≡ ring_place g head → start ≡ ring_place g 0
+    → IfSome present (λ image. front ≡ sectors_from image here (length front / 512))
+    → OnOk result (IfSome present (λ image. back ≡ sectors_from image start (length back / 512)))
+    → IfSome present (λ image. OnOk result (sectors_in (put_mid turn k (front ++ rest) back) ≡ ring_from (ring_of g) head (λ place. sector image (ring_place g place))))
+ring_read g head turn k here start None front rest back result inside turn_is front_size back_size whole here_is start_is front_is back_is = tt
+ring_read g head turn k here start (Some image) front rest back (Err e) inside turn_is front_size back_size whole here_is start_is front_is back_is = tt
+ring_read g head turn k here start (Some image) front rest back (Ok x) inside turn_is front_size back_size whole here_is start_is front_is back_is =
     let ends : drop k (drop turn (front ++ rest)) ≡ [] = drop_all k (drop turn (front ++ rest)) (omega (arith, length-drop turn (front ++ rest))) in
     let joined : put_mid turn k (front ++ rest) back ≡ front ++ back =
     ap (λ (l : List ℕ). take turn (front ++ rest) ++ (back ++ l)) ends
@@ -90,5 +89,5 @@ ring_read g head turn k (Some image) front rest back (Ok x) inside turn_is front
     let back_count : length back / 512 ≡ head = omega arith in
     ap sectors_in joined
     ∙ ring_turned g head image front back inside (front_size ∙ turn_is) back_size
-    (front_is ∙ ap (λ (n : ℕ). sectors_from image (25 + head) n) front_count)
-    (back_is ∙ ap (λ (n : ℕ). sectors_from image 25 n) back_count)
+    (front_is ∙ ap (λ (n : ℕ). sectors_from image here n) front_count ∙ ap (λ (k : ℕ). sectors_from image k (ring_of g - head)) here_is)
+    (back_is ∙ ap (λ (n : ℕ). sectors_from image start n) back_count ∙ ap (λ (k : ℕ). sectors_from image k head) start_is)

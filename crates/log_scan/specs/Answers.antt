@@ -1,9 +1,12 @@
 -- What the answers of this crate say. Want of memory and a fault of the disk say nothing of the log.
 use Rattle.std.specs.Prelude.{◌≡◌, ℕ, suc, ◌+◌, List, [], drop, Option, Some, None, Result, Ok, Err}
+use Rattle.lufs_base.specs.Layout.{ring_of}
 use Rattle.lufs_base.specs.declared.geometry.Geometry.{Geometry}
 use Rattle.volume_model.specs.declared.log.Header.{Header}
 use Rattle.volume_model.specs.declared.log.Tx.{Tx}
 use Rattle.volume_model.specs.Log.{Log, NoHeader, Behind, Transactions, Listed, BadRun, with_tx, transactions_from}
+use Rattle.log_scan.specs.declared.geometry.GeometryError.{GeometryError}
+use Rattle.log_scan.specs.declared.geometry.GeometryError.TheVariants.{NotVolume, Disk as geometry_unread}
 use Rattle.log_scan.specs.declared.log.ScanError.{ScanError}
 use Rattle.log_scan.specs.declared.log.ScanError.TheVariants.{Disk, BadHeader, BadLog, Mem as no_memory}
 
@@ -11,9 +14,9 @@ use Rattle.log_scan.specs.declared.log.ScanError.TheVariants.{Disk, BadHeader, B
 -- or a bad run
 abbrev pub IsTx : Geometry → Header → (tid at : ℕ) → List (List ℕ) → Result (Option Tx) ScanError → Type 0
 IsTx g h tid at rest (Ok (Some tx)) =
-    (more : ℕ) → transactions_from g h (suc more) tid at rest ≡ with_tx tx (transactions_from g h more (tid + 1) (at + tx.sectors) (drop tx.sectors rest))
-IsTx g h tid at rest (Ok None) = (more : ℕ) → transactions_from g h (suc more) tid at rest ≡ Listed []
-IsTx g h tid at rest (Err (BadLog bad place)) = (more : ℕ) → transactions_from g h (suc more) tid at rest ≡ BadRun bad place
+    (more : ℕ) → transactions_from g (ring_of g) h (suc more) tid at rest ≡ with_tx tx (transactions_from g (ring_of g) h more (tid + 1) (at + tx.sectors) (drop tx.sectors rest))
+IsTx g h tid at rest (Ok None) = (more : ℕ) → transactions_from g (ring_of g) h (suc more) tid at rest ≡ Listed []
+IsTx g h tid at rest (Err (BadLog bad place)) = (more : ℕ) → transactions_from g (ring_of g) h (suc more) tid at rest ≡ BadRun bad place
 IsTx g h tid at rest (Err Disk) = ⊥
 IsTx g h tid at rest (Err BadHeader) = ⊥
 IsTx g h tid at rest (Err no_memory) = Unit {0}
@@ -33,3 +36,9 @@ IsScan log (Err (BadLog tid place)) = (h : Header) × (log ≡ Behind h (BadRun 
 IsScan log (Err BadHeader) = log ≡ NoHeader
 IsScan log (Err Disk) = Unit {0}
 IsScan log (Err no_memory) = Unit {0}
+
+-- the answer tells the geometry of the volume, or that there is none
+abbrev pub IsGeometryAnswer : Option Geometry → Result Geometry GeometryError → Type 0
+IsGeometryAnswer found (Ok g) = found ≡ Some g
+IsGeometryAnswer found (Err NotVolume) = found ≡ None
+IsGeometryAnswer found (Err geometry_unread) = Unit {0}

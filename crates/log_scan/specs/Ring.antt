@@ -1,11 +1,11 @@
 -- What is read of the ring of the log.
-use Rattle.std.specs.Prelude.{suc, ◌+◌}
-use Rattle.lufs_base.specs.Layout.{ring_of}
+use Rattle.std.specs.Prelude.{suc}
+use Rattle.lufs_base.specs.Layout.{ring_of, ring_place}
 use Rattle.lufs_base.specs.declared.geometry.Geometry.{Geometry}
 use Rattle.volume_model.specs.declared.log.Header.{Header}
-use Rattle.volume_model.specs.Image.{Image, sector}
+use Rattle.volume_model.specs.Format.{Image, sector}
 use Rattle.volume_model.specs.Log.{Transactions, transactions_from, ring_from}
 
 -- the transactions of an image whose log header is this
 abbrev pub transactions_of : Geometry → Header → Image → Transactions
-transactions_of g h image = transactions_from g h (suc (ring_of g)) h.tid 0 (ring_from g h.head (λ place. sector image (25 + place)))
+transactions_of g h image = transactions_from g (ring_of g) h (suc (ring_of g)) h.tid 0 (ring_from (ring_of g) h.head (λ place. sector image (ring_place g place)))

@@ -1,22 +1,18 @@
 ghost use Rattle.std.specs.Prelude.{◌≡◌, ◌<◌, ◌≤◌, ◌+◌, ◌*◌, ◌%◌, suc, length, drop, IfOk, OnOk, IfSome, IsErrOf};
-ghost use Rattle.lufs_base.specs.Causes.{Rose, HasCause};
-ghost use Rattle.lufs_base.specs.Layout.{IsGeometry, ring_of, blocks_of};
-ghost use Rattle.volume_model.specs.Image.{sector, sectors_in};
+ghost use Rattle.lufs_base.specs.Layout.{IsGeometry, ring_of, ring_place, blocks_of};
+ghost use Rattle.volume_model.specs.Format.{sector, sectors_in};
 ghost use Rattle.volume_model.specs.Log.{transactions_from, ring_from, log_of};
-ghost use Rattle.sector_disk.specs.Disk.{Reads, CountsFailure, NoneFailed, FailedLast};
+ghost use Rattle.sector_disk.specs.Disk.{IsRead, IsUnwritten, CountsFailure, FailsJustAt};
 ghost use Rattle.log_scan.specs.declared.log.ScanError.TheVariants.{Disk, BadHeader, Mem};
 ghost use Rattle.log_scan.specs.Ring.{transactions_of};
 ghost use Rattle.log_scan.specs.Answers.{IsTx, IsListing, IsScan};
 
-use crate::runs::{SECTOR, join_payloads, row_len};
+use crate::runs::{join_payloads, row_len};
 use crate::{Header, Tx, TxList};
 use log_format::{Run, RunError, read_header, read_run};
-use lufs_base::{DiskFault, Geometry};
+use lufs_base::{DiskFault, Geometry, SECTOR};
 use sector_disk::Disk;
 use std::alloc::{AllocError, Global};
-
-/// The sector of the log header. The ring lies behind it.
-const HEADER: u64 = 24;
 
 /// Why a scan told no log.
 #[derive(Clone, Copy, Debug, PartialEq, Eq)]
@@ -118,7 +114,7 @@ fn transactions(
     requires geometry { IsGeometry g.now }
     requires head { header.now.head < ring_of g.now }
     requires ring { length ring.now ≡ 512 * ring_of g.now }
-    ensures value { IsListing (transactions_from g.now header.now (suc (ring_of g.now)) header.now.tid 0 (sectors_in ring.now)) result }
+    ensures value { IsListing (transactions_from g.now (ring_of g.now) header.now (suc (ring_of g.now)) header.now.tid 0 (sectors_in ring.now)) result }
     ensures no_fault { IsErrOf result ScanError.Disk → ⊥ }
 {
     let mut txs = TxList::new(alloc);
@@ -141,14 +137,10 @@ fn transactions(
 // Reads these sectors, if there are any.
 fn read_any<D: Disk>(disk: &mut D, first: u64, out: &mut [u8]) -> Result<(), DiskFault>
     requires whole { length out.old % 512 ≡ 0 }
-    requires inside { 512 * first + length out.old ≤ 512 * D.sectors disk.old }
-    ensures bytes { Reads (D.present disk.old) first result out.new }
-    ensures content { D.present disk.new ≡ D.present disk.old }
-    ensures listed { D.listed disk.new ≡ D.listed disk.old }
-    ensures calls { D.calls disk.new ≡ D.calls disk.old }
-    ensures sectors { D.sectors disk.new ≡ D.sectors disk.old }
-    ensures cause { HasCause (D.faults disk.old) (D.faults disk.new) result }
-    ensures failure { CountsFailure result (D.calls disk.new) (D.faults disk.old) (D.faults disk.new) (D.failed_at disk.old) (D.failed_at disk.new) }
+    requires inside { 512 * first + length out.old ≤ 512 * (D.told disk.old).sectors }
+    ensures bytes { OnOk result (IsRead first out.new (D.told disk.old)) }
+    ensures unwritten { IsUnwritten (D.told disk.old) (D.told disk.new) }
+    ensures failure { CountsFailure result (D.told disk.old) (D.told disk.new) }
 {
     if out.is_empty() {
         return Ok(());
@@ -165,20 +157,16 @@ fn read_ring<D: Disk>(
 ) -> Result<(), DiskFault>
     requires geometry { IsGeometry geometry.now }
     requires head { head < ring_of geometry.now }
-    requires disk { 8 * blocks_of geometry.now ≤ D.sectors disk.old }
+    requires disk { 8 * blocks_of geometry.now ≤ (D.told disk.old).sectors }
     requires size { length out.old ≡ 512 * ring_of geometry.now }
-    ensures ring { IfSome (D.present disk.old) (λ image. OnOk result (
-        sectors_in out.new ≡ ring_from geometry.now head (λ place. sector image (25 + place)))) }
-    ensures content { D.present disk.new ≡ D.present disk.old }
-    ensures listed { D.listed disk.new ≡ D.listed disk.old }
-    ensures calls { D.calls disk.new ≡ D.calls disk.old }
-    ensures sectors { D.sectors disk.new ≡ D.sectors disk.old }
-    ensures cause { HasCause (D.faults disk.old) (D.faults disk.new) result }
-    ensures failure { CountsFailure result (D.calls disk.new) (D.faults disk.old) (D.faults disk.new) (D.failed_at disk.old) (D.failed_at disk.new) }
+    ensures ring { IfSome ((D.told disk.old).present) (λ image. OnOk result (
+        sectors_in out.new ≡ ring_from (ring_of geometry.now) head (λ place. sector image (ring_place geometry.now place)))) }
+    ensures unwritten { IsUnwritten (D.told disk.old) (D.told disk.new) }
+    ensures failure { CountsFailure result (D.told disk.old) (D.told disk.new) }
 {
     let turn = SECTOR * (geometry.ring() - head) as usize;
-    read_any(disk, HEADER + 1 + u64::from(head), &mut out[..turn])?;
-    read_any(disk, HEADER + 1, &mut out[turn..])
+    read_any(disk, geometry.ring_place(head), &mut out[..turn])?;
+    read_any(disk, geometry.ring_place(0), &mut out[turn..])
 }
 
 // Reads the ring into these bytes, and the transactions from there.
@@ -191,17 +179,11 @@ fn read_transactions<D: Disk>(
 ) -> Result<TxList, ScanError>
     requires geometry { IsGeometry geometry.now }
     requires head { header.now.head < ring_of geometry.now }
-    requires disk { 8 * blocks_of geometry.now ≤ D.sectors disk.old }
+    requires disk { 8 * blocks_of geometry.now ≤ (D.told disk.old).sectors }
     requires ring { length ring.old ≡ 512 * ring_of geometry.now }
-    ensures log { IfSome (D.present disk.old) (λ image. IsListing (transactions_of geometry.now header.now image) result) }
-    ensures content { D.present disk.new ≡ D.present disk.old }
-    ensures listed { D.listed disk.new ≡ D.listed disk.old }
-    ensures calls { D.calls disk.new ≡ D.calls disk.old }
-    ensures sectors { D.sectors disk.new ≡ D.sectors disk.old }
-    ensures later { D.faults disk.old ≤ D.faults disk.new }
-    ensures cause { IsErrOf result ScanError.Disk → Rose (D.faults disk.old) (D.faults disk.new) }
-    ensures failed { IsErrOf result ScanError.Disk → FailedLast (D.calls disk.new) (D.faults disk.old) (D.faults disk.new) (D.failed_at disk.new) }
-    ensures none_failed { ¬ IsErrOf result ScanError.Disk → NoneFailed (D.faults disk.old) (D.faults disk.new) (D.failed_at disk.old) (D.failed_at disk.new) }
+    ensures log { IfSome ((D.told disk.old).present) (λ image. IsListing (transactions_of geometry.now header.now image) result) }
+    ensures unwritten { IsUnwritten (D.told disk.old) (D.told disk.new) }
+    ensures failure { FailsJustAt (IsErrOf result ScanError.Disk) (D.told disk.old) (D.told disk.new) }
 {
     read_ring(disk, geometry, header.head, ring)?;
     transactions(alloc, geometry, header, ring)
@@ -215,19 +197,13 @@ pub fn scan<D: Disk>(
     g: &Geometry,
 ) -> Result<(Header, TxList), ScanError>
     requires geometry { IsGeometry g.now }
-    requires disk { 8 * blocks_of g.now ≤ D.sectors disk.old }
-    ensures log { IfSome (D.present disk.old) (λ image. IsScan (log_of g.now image) result) }
-    ensures content { D.present disk.new ≡ D.present disk.old }
-    ensures listed { D.listed disk.new ≡ D.listed disk.old }
-    ensures calls { D.calls disk.new ≡ D.calls disk.old }
-    ensures sectors { D.sectors disk.new ≡ D.sectors disk.old }
-    ensures later { D.faults disk.old ≤ D.faults disk.new }
-    ensures cause { IsErrOf result ScanError.Disk → Rose (D.faults disk.old) (D.faults disk.new) }
-    ensures failed { IsErrOf result ScanError.Disk → FailedLast (D.calls disk.new) (D.faults disk.old) (D.faults disk.new) (D.failed_at disk.new) }
-    ensures none_failed { ¬ IsErrOf result ScanError.Disk → NoneFailed (D.faults disk.old) (D.faults disk.new) (D.failed_at disk.old) (D.failed_at disk.new) }
+    requires disk { 8 * blocks_of g.now ≤ (D.told disk.old).sectors }
+    ensures log { IfSome ((D.told disk.old).present) (λ image. IsScan (log_of g.now image) result) }
+    ensures unwritten { IsUnwritten (D.told disk.old) (D.told disk.new) }
+    ensures failure { FailsJustAt (IsErrOf result ScanError.Disk) (D.told disk.old) (D.told disk.new) }
 {
     let mut sector = [0u8; SECTOR];
-    disk.read(HEADER, &mut sector)?;
+    disk.read(g.header_sector(), &mut sector)?;
     let header = read_header(g, &sector)?;
     let mut ring = vec![in alloc; 0u8; SECTOR * g.ring() as usize]?;
     let txs = read_transactions(alloc, disk, g, &header, &mut ring)?;

@@ -1,16 +1,10 @@
 ghost use Rattle.std.specs.Prelude.{◌≡◌, ◌+◌, ◌*◌, ◌≤◌, length, take, drop, IfOk};
-ghost use Rattle.volume_model.specs.Image.{sector, sectors_of, sectors_in};
+ghost use Rattle.volume_model.specs.Format.{sector, sectors_of, sectors_in};
 ghost use Rattle.volume_model.specs.Log.{belongs_to, row_of, payload_of};
 
 use log_format::read_trailer;
-use lufs_base::Mem;
+use lufs_base::{Mem, PAYLOAD, SECTOR};
 use std::alloc::Global;
-
-/// The bytes of a sector.
-pub const SECTOR: usize = 512;
-
-/// The bytes of a log sector before its trailer.
-const PAYLOAD: usize = 504;
 
 // Sector `i` of the ring.
 fn sector(ring: &[u8], i: usize) -> &[u8]

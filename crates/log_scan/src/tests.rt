@@ -1,7 +1,8 @@
-use crate::{ScanError, scan};
-use lufs_base::{Geometry, put_u32};
+use crate::{GeometryError, ScanError, read_geometry, scan};
+use lufs_base::{Geometry, Mem, put_u32};
 use sector_disk::{Disk, Fail, MemDisk};
 use std::alloc::Global;
+use std::test::Fail as TestFail;
 
 /// A word of 32 bits at a byte of a sector of the ring.
 type Word = (u32, u32, u32);
@@ -179,4 +180,266 @@ fn logs_that_wrap(rt: HostRuntime) {
             "{what}"
         );
     }
+}
+
+#[test]
+fn reads_of_a_scan(rt: HostRuntime) {
+    let disk = Err(ScanError::Disk);
+    // One read for the header and one for each end of the ring, and no other.
+    for (what, head, fail, want) in [
+        ("one end", 0, Fail::Read(2), disk),
+        ("no more than that", 0, Fail::Read(3), Ok(None)),
+        ("both ends", 100, Fail::Read(3), disk),
+        ("no more than those", 100, Fail::Read(4), Ok(None)),
+    ] {
+        assert_eq!(rt;
+            find(rt.alloc(), head, &[], (0, 0, 0), &[fail]),
+            want,
+            "{what}"
+        );
+    }
+}
+
+/// Transactions of as many deltas of one kind each, one after the other in the ring.
+#[derive(Clone, Copy)]
+struct Filling {
+    txs: u32,
+    /// The sectors of a transaction.
+    sectors: u32,
+    deltas: u32,
+    kind: u32,
+    len: u32,
+    /// The bytes of a record in the log.
+    bytes: u32,
+    /// The home of the first one, and how far that of the next one is from it.
+    home: u32,
+    step: u32,
+}
+
+// Writes a word of the payload that the ring carries.
+fn put_carried(image: &mut [u8], at: u32, word: u32) {
+    let at = at as usize;
+    put(image, 512 * (25 + at / 504) + at % 504, word);
+}
+
+// Writes the head of a record in that payload.
+fn put_record(image: &mut [u8], at: u32, home: u32, len: u32, kind: u32) {
+    put_carried(image, at.wrapping_add(4), home);
+    put_carried(image, at.wrapping_add(8), len);
+    put_carried(image, at.wrapping_add(12), kind);
+}
+
+// Writes transaction t + 1.
+fn put_tx(image: &mut [u8], filling: &Filling, t: u32) {
+    let place = filling.sectors.wrapping_mul(t);
+    let mut at = place.wrapping_mul(504);
+    let mut home = filling.home;
+    for _ in 0..filling.deltas {
+        put_record(image, at, home, filling.len, filling.kind);
+        at = at.wrapping_add(filling.bytes);
+        home = home.wrapping_add(filling.step);
+    }
+    let tid = t.wrapping_add(1);
+    put_record(image, at, tid, filling.deltas, 8);
+    for i in 0..filling.sectors {
+        let sector = 512 * (25 + place.wrapping_add(i) as usize);
+        put_all(image, &[(sector + 504, tid), (sector + 508, 3)]);
+    }
+}
+
+// A volume of these numbers of groups, blocks, inodes and sectors of the log.
+fn volume(alloc: Global, numbers: [u32; 4], filling: &Filling) -> Result<MemDisk, Mem> {
+    let [groups, bpg, ipg, log] = numbers;
+    let blocks = groups
+        .wrapping_mul(bpg)
+        .wrapping_add(log / 8)
+        .wrapping_add(3);
+    let mut image = vec![in alloc; 0u8; 4096 * blocks as usize]?;
+    put_all(
+        &mut image,
+        &[
+            (8192, 0x0001_1954),
+            (8196, 1),
+            (8200, groups),
+            (8204, bpg),
+            (8208, ipg),
+            (8212, log),
+            (8216, blocks),
+            (12288, 0x4C55_4653),
+            (12292, 3),
+            (12300, 1),
+        ],
+    );
+    for t in 0..filling.txs {
+        put_tx(&mut image, filling, t);
+    }
+    if image.len() % 512 != 0 {
+        return Err(Mem);
+    }
+    Ok(MemDisk::new(image, Vec::new(alloc)))
+}
+
+// How many transactions a scan finds of that volume, and the last of them.
+fn last_of(
+    alloc: Global,
+    numbers: [u32; 4],
+    filling: &Filling,
+) -> Result<(usize, Option<Found>), TestFail> {
+    let mut disk = volume(alloc, numbers, filling)?;
+    let g = read_geometry(&mut disk).map_err(|_| "no volume")?;
+    let (_, txs) = scan(alloc, &mut disk, &g).map_err(|_| "no log")?;
+    let last = txs.as_slice().last().map(|tx| Found {
+        tid: tx.tid,
+        first: tx.first,
+        sectors: tx.sectors,
+        deltas: tx.deltas.len(),
+    });
+    Ok((txs.len(), last))
+}
+
+#[test]
+fn largest_logs(rt: HostRuntime) -> Result<(), TestFail> {
+    let zeros = Filling {
+        txs: 1,
+        sectors: 32,
+        deltas: 1000,
+        kind: 5,
+        len: 4096,
+        bytes: 16,
+        home: 0x25000,
+        step: 4096,
+    };
+    let groups = Filling {
+        sectors: 55,
+        deltas: 64,
+        kind: 1,
+        len: 416,
+        bytes: 432,
+        home: 0x23000,
+        step: 0x40000,
+        ..zeros
+    };
+    let chunks = Filling {
+        sectors: 255,
+        deltas: 243,
+        kind: 3,
+        len: 512,
+        bytes: 528,
+        step: 512,
+        ..zeros
+    };
+    let commits = Filling {
+        txs: 65_535,
+        sectors: 1,
+        deltas: 0,
+        ..zeros
+    };
+    for (what, numbers, filling, place) in [
+        ("a run of 1,000 deltas", [1, 2048, 32, 256], zeros, 0),
+        ("64 groups", [64, 64, 32, 256], groups, 0),
+        ("a run that fills the ring", [1, 64, 32, 256], chunks, 0),
+        (
+            "the largest log, full",
+            [1, 64, 32, 65_536],
+            commits,
+            65_534,
+        ),
+    ] {
+        let last = Found {
+            tid: filling.txs,
+            first: place,
+            sectors: filling.sectors,
+            deltas: filling.deltas as usize,
+        };
+        assert_eq!(rt;
+            last_of(rt.alloc(), numbers, &filling)?,
+            (filling.txs as usize, Some(last)),
+            "{what}"
+        );
+    }
+    Ok(())
+}
+
+// What is read of the superblock of the smallest volume, with one word changed, on a disk of so many sectors.
+fn geometry_read(
+    alloc: Global,
+    sectors: u16,
+    change: (u32, u32),
+    fail: Option<Fail>,
+) -> Result<Result<Geometry, GeometryError>, Mem> {
+    let mut image = vec![in alloc; 0u8; 512 * sectors as usize]?;
+    put_all(
+        &mut image,
+        &[
+            (8192, 0x0001_1954),
+            (8196, 1),
+            (8200, 1),
+            (8204, 64),
+            (8208, 32),
+            (8212, 256),
+            (8216, 99),
+            (8192 + change.0 as usize, change.1),
+        ],
+    );
+    if image.len() % 512 != 0 {
+        return Err(Mem);
+    }
+    let mut fails = Vec::new(alloc);
+    if let Some(fail) = fail {
+        fails.push(fail)?;
+    }
+    Ok(read_geometry(&mut MemDisk::new(image, fails)))
+}
+
+#[test]
+fn geometries(rt: HostRuntime) -> Result<(), TestFail> {
+    for (what, sectors, change, fails, want) in [
+        ("smallest volume", 792, (24, 99), None, Ok(SMALLEST)),
+        (
+            "other magic",
+            792,
+            (0, 0x0001_1955),
+            None,
+            Err(GeometryError::NotVolume),
+        ),
+        (
+            "other number of blocks",
+            792,
+            (24, 100),
+            None,
+            Err(GeometryError::NotVolume),
+        ),
+        (
+            "a sector too few",
+            791,
+            (24, 99),
+            None,
+            Err(GeometryError::NotVolume),
+        ),
+        (
+            "no superblock",
+            16,
+            (24, 99),
+            None,
+            Err(GeometryError::NotVolume),
+        ),
+        (
+            "unread",
+            792,
+            (24, 99),
+            Some(Fail::Read(1)),
+            Err(GeometryError::Disk),
+        ),
+        (
+            "no more reads",
+            792,
+            (24, 99),
+            Some(Fail::Read(2)),
+            Ok(SMALLEST),
+        ),
+    ] {
+        let read = geometry_read(rt.alloc(), sectors, change, fails)?;
+        assert_eq!(rt; read, want, "{what}");
+    }
+    Ok(())
 }

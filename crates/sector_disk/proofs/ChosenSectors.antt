@@ -4,9 +4,8 @@ use Rattle.std.specs.Prelude.{Result, Ok, Err}
 use Rattle.std.proofs.lemmas.Bool.{cases_order}
 use Rattle.std.proofs.lemmas.List.{take_all}
 use Rattle.volume_model.specs.declared.device_call.DeviceCall.{DeviceCall}
-use Rattle.volume_model.specs.Image.{Image, sector, overwritten}
-use Rattle.volume_model.specs.Record.{Record, IsOfSectors}
-use Rattle.volume_model.specs.Outcome.{flushed, pending, kept_at}
+use Rattle.volume_model.specs.Format.{Image, sector, overwritten}
+use Rattle.volume_model.specs.Crash.{Record, IsOfSectors, flushed, pending, kept_at}
 use Rattle.volume_model.proofs.Sectors.{length-overwritten, sector_before, sector_within, sector_behind}
 use Rattle.volume_model.proofs.Calls.{flushed-pending}
 use Rattle.volume_model.proofs.Outcomes.{AllInside, inside_front, inside_left, inside_right, length-image_after}

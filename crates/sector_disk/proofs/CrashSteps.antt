@@ -8,9 +8,8 @@ use Rattle.std.proofs.lemmas.List.{take_more, drop_more, drop_all, drop-append-l
 use Rattle.std.proofs.lemmas.Option.{slice_get_within, get_or_from_slice_get}
 use Rattle.volume_model.specs.declared.device_call.DeviceCall.{DeviceCall}
 use Rattle.volume_model.specs.declared.device_call.DeviceCall.TheVariants.{Write, Flush}
-use Rattle.volume_model.specs.Image.{Image, sector, sectors_of, overwritten}
-use Rattle.volume_model.specs.Record.{Record}
-use Rattle.volume_model.specs.Outcome.{flushed, pending, written_by, written_to, kept_at, Outcome}
+use Rattle.volume_model.specs.Format.{Image, sector, sectors_of, overwritten}
+use Rattle.volume_model.specs.Crash.{Record, flushed, pending, written_by, written_to, kept_at, Outcome}
 use Rattle.volume_model.proofs.Sectors.{length-overwritten, length-sector, sector_before, sector_within, sector_behind}
 use Rattle.volume_model.proofs.Calls.{flushed-pending, pending_renewed, flushed_renewed, pending_longer, flushed_same}
 use Rattle.volume_model.proofs.Outcomes.{AllInside, inside_front, inside_left, inside_right, length-image_after}

@@ -7,9 +7,8 @@ use Rattle.std.proofs.lemmas.List.Elements.{filter_map-append, Contains-append_l
 use Rattle.lufs_base.specs.Causes.{counted}
 use Rattle.volume_model.specs.declared.device_call.DeviceCall.{DeviceCall}
 use Rattle.volume_model.specs.declared.device_call.DeviceCall.TheVariants.{Write, Flush}
-use Rattle.volume_model.specs.Image.{Image, sector, overwritten}
-use Rattle.volume_model.specs.Record.{Record, with_call}
-use Rattle.volume_model.specs.Outcome.{written_by, written_to}
+use Rattle.volume_model.specs.Format.{Image, sector, overwritten}
+use Rattle.volume_model.specs.Crash.{Record, with_call, written_by, written_to}
 use Rattle.volume_model.proofs.Sectors.{length-overwritten}
 use Rattle.volume_model.proofs.Calls.{image_after-append}
 use Rattle.volume_model.proofs.Outcomes.{inside_both, sector_after_write}

@@ -2,9 +2,8 @@
 use Rattle.std.specs.Prelude.{◌≢◌, ℕ, zero, suc, List, [], ◌∷◌, take, slice_get, Option, Some, None, Result, Ok, Err}
 use Rattle.std.specs.List.{AllByRecursion}
 use Rattle.volume_model.specs.declared.device_call.DeviceCall.{DeviceCall}
-use Rattle.volume_model.specs.Image.{Image, overwritten}
-use Rattle.volume_model.specs.Record.{Record}
-use Rattle.volume_model.specs.Outcome.{pending, written_to, kept_at}
+use Rattle.volume_model.specs.Format.{Image, overwritten}
+use Rattle.volume_model.specs.Crash.{Record, pending, written_to, kept_at}
 use Rattle.sector_disk.specs.declared.crash.CrashError.{CrashError}
 use Rattle.sector_disk.specs.declared.crash.CrashError.TheVariants.{NoSuch}
 

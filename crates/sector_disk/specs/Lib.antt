@@ -1,3 +1,5 @@
 pub mod Disk
 pub mod MemDisk
+pub mod SureDisk
 pub mod Chosen
+pub mod Continued

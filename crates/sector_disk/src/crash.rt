@@ -1,9 +1,8 @@
 ghost use Rattle.std.specs.Prelude.{◌≡◌, ◌≤◌, ◌⊎◌, ℕ, ◌+◌, ◌*◌, length, take, drop, IfOk, IfErr, Ok, Err, Option, Some, List, ◌∷◌, ◌++◌};
 ghost use Rattle.std.specs.Option.{option_copied};
 ghost use Rattle.std.specs.List.{AllByRecursion};
-ghost use Rattle.volume_model.specs.Image.{Image, sector};
-ghost use Rattle.volume_model.specs.Record.{Record, IsInside, IsOfSectors};
-ghost use Rattle.volume_model.specs.Outcome.{flushed, pending, image_after, kept_at};
+ghost use Rattle.volume_model.specs.Format.{Image, sector};
+ghost use Rattle.volume_model.specs.Crash.{Record, IsInside, IsOfSectors, flushed, pending, image_after, kept_at};
 ghost use Rattle.sector_disk.specs.Chosen.{nth_written, with_choice, crash_of, IsUnnamed};
 ghost use Rattle.sector_disk.specs.declared.crash.CrashError.TheVariants.{Mem};
 

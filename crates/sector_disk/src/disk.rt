@@ -1,81 +1,56 @@
-ghost use Rattle.std.specs.Prelude.{◌≡◌, ◌≤◌, ℕ, ◌+◌, ◌*◌, length, Option, IfSome, IsSome};
-ghost use Rattle.lufs_base.specs.Causes.{HasCause};
-ghost use Rattle.volume_model.specs.Image.{Image, sectors_of};
-ghost use Rattle.volume_model.specs.Record.{Record};
+ghost use Rattle.std.specs.Prelude.{◌≡◌, ◌≤◌, ◌+◌, ◌*◌, ◌∷◌, [], length, IfSome, IsSome, OnOk, OnErr, ◌⊎◌};
+ghost use Rattle.volume_model.specs.Format.{sectors_of};
 ghost use Rattle.volume_model.specs.declared.device_call.DeviceCall.TheVariants.{Write, Flush};
-ghost use Rattle.sector_disk.specs.Disk.{IsWhole, Reads, Writes, Lists, ListsFlush, IsTold, CountsFailure};
+ghost use Rattle.sector_disk.specs.Disk.{DiskTold, IsWhole, IsRead, IsUnwritten, HasMade, HasMadePartly, CountsFailure, IsTold, IsOfItsSectors};
 
 use lufs_base::DiskFault;
 
-/// A disk of sectors of 512 bytes, which keeps each sector whole. What it holds, and which calls
-/// changed it, a disk tells or doesn't; its counts it always tells.
+/// A disk of sectors of 512 bytes, which keeps each sector whole (`docs/DEFINITIONS.md`, "What a disk
+/// tells").
 pub trait Disk: Drop {
+    /// What it tells of itself: its counts always, what it holds and which calls changed it as it likes.
+    ghost told: { Self → DiskTold };
+
     /// How many sectors it has. No call changes them.
-    ghost sectors: { Self → ℕ };
-
-    /// What reads give, where the disk tells it.
-    ghost present: { Self → Option Image };
-
-    /// How it stood, and the writes and flushes since, where the disk tells them.
-    ghost listed: { Self → Option Record };
-
-    /// How many writes and flushes it counted.
-    ghost calls: { Self → ℕ };
-
-    /// How many of its calls failed.
-    ghost faults: { Self → ℕ };
-
-    /// How many writes and flushes it had counted when one of its calls last failed, that call among
-    /// them where it was counted.
-    ghost failed_at: { Self → ℕ };
-
     fn sectors(&self) -> u64
-        ensures { result ≡ sectors self.now };
+        ensures value { result ≡ (told self.now).sectors }
+        ensures content { IsOfItsSectors (told self.now) };
 
-    /// The content of a disk that tells its calls goes with them.
+    /// How many writes and flushes went. The content of a disk that tells its calls goes with them.
     fn calls(&self) -> u64
-        ensures value { result ≡ calls self.now }
-        ensures told { IsTold (listed self.now) (present self.now) (faults self.now) };
+        ensures value { result ≡ (told self.now).calls }
+        ensures content { IsTold (told self.now) };
 
+    /// How many faults it met.
     fn faults(&self) -> u64
-        ensures { result ≡ faults self.now };
+        ensures { result ≡ (told self.now).faults };
 
     /// Reads whole sectors, from sector `first` on. After an `Err` `out` holds anything.
     fn read(&mut self, first: u64, out: &mut [u8]) -> Result<(), DiskFault>
         requires whole { IsWhole (length out.old) }
-        requires inside { 512 * first + length out.old ≤ 512 * sectors self.old }
-        ensures bytes { Reads (present self.old) first result out.new }
-        ensures content { present self.new ≡ present self.old }
-        ensures listed { listed self.new ≡ listed self.old }
-        ensures calls { calls self.new ≡ calls self.old }
-        ensures sectors { sectors self.new ≡ sectors self.old }
-        ensures cause { HasCause (faults self.old) (faults self.new) result }
-        ensures failure { CountsFailure result (calls self.new) (faults self.old) (faults self.new) (failed_at self.old) (failed_at self.new) };
+        requires inside { 512 * first + length out.old ≤ 512 * (told self.old).sectors }
+        ensures bytes { OnOk result (IsRead first out.new (told self.old)) }
+        ensures unwritten { IsUnwritten (told self.old) (told self.new) }
+        ensures failure { CountsFailure result (told self.old) (told self.new) };
 
-    /// Writes whole sectors, from sector `first` on. After an `Err` each of them is old or new.
+    /// Writes whole sectors, from sector `first` on. A write that fails may be listed, and then each of its
+    /// sectors is old or new; or nothing was written.
     fn write(&mut self, first: u64, bytes: &[u8]) -> Result<(), DiskFault>
         requires whole { IsWhole (length bytes.now) }
-        requires inside { 512 * first + length bytes.now ≤ 512 * sectors self.old }
-        ensures content { Writes first bytes.now result (present self.old) (present self.new) }
-        // A failed write is listed too, unless it left every sector old.
-        ensures listed { Lists (Write first bytes.now) result (present self.old ≡ present self.new) (listed self.old) (listed self.new) }
-        ensures calls { calls self.old ≤ calls self.new }
-        ensures sectors { sectors self.new ≡ sectors self.old }
-        ensures cause { HasCause (faults self.old) (faults self.new) result }
-        ensures failure { CountsFailure result (calls self.new) (faults self.old) (faults self.new) (failed_at self.old) (failed_at self.new) };
+        requires inside { 512 * first + length bytes.now ≤ 512 * (told self.old).sectors }
+        ensures ok { OnOk result (HasMade (Write first bytes.now ∷ []) (told self.old) (told self.new)) }
+        ensures err { OnErr result (HasMadePartly first bytes.now (told self.old) (told self.new) ⊎ IsUnwritten (told self.old) (told self.new)) }
+        ensures failure { CountsFailure result (told self.old) (told self.new) };
 
-    /// Makes a crash keep what was written before. A failed flush is not listed.
+    /// Makes a crash keep what was written before. A flush that fails isn't listed.
     fn flush(&mut self) -> Result<(), DiskFault>
-        ensures content { present self.new ≡ present self.old }
-        ensures listed { ListsFlush result (listed self.old) (listed self.new) }
-        ensures calls { calls self.old ≤ calls self.new }
-        ensures sectors { sectors self.new ≡ sectors self.old }
-        ensures cause { HasCause (faults self.old) (faults self.new) result }
-        ensures failure { CountsFailure result (calls self.new) (faults self.old) (faults self.new) (failed_at self.old) (failed_at self.new) };
+        ensures ok { OnOk result (HasMade (Flush ∷ []) (told self.old) (told self.new)) }
+        ensures err { OnErr result (IsUnwritten (told self.old) (told self.new)) }
+        ensures failure { CountsFailure result (told self.old) (told self.new) };
 
-    /// What is told of the content has the disk's sectors.
-    ghost size: { (d : Self) → IfSome (present d) (λ image. sectors_of image ≡ sectors d) };
+    /// The content that is told has the disk's sectors.
+    ghost size: { (d : Self) → IfSome (told d).present (λ image. sectors_of image ≡ (told d).sectors) };
 
     /// A disk that tells its calls tells their number, and what it holds.
-    ghost told: { (d : Self) → IfSome (listed d) (λ r. (calls d ≡ length r.calls) × IsSome (present d)) };
+    ghost counted: { (d : Self) → IfSome (told d).listed (λ r. ((told d).calls ≡ length r.calls) × IsSome (told d).present) };
 }

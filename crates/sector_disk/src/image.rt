@@ -1,8 +1,7 @@
 ghost use Rattle.std.specs.Prelude.{◌≡◌, ◌≤◌, ◌+◌, ◌*◌, length};
 ghost use Rattle.std.specs.List.{AllByRecursion};
-ghost use Rattle.volume_model.specs.Image.{overwritten};
-ghost use Rattle.volume_model.specs.Record.{IsInside};
-ghost use Rattle.volume_model.specs.Outcome.{image_after};
+ghost use Rattle.volume_model.specs.Format.{overwritten};
+ghost use Rattle.volume_model.specs.Crash.{IsInside, image_after};
 
 use volume_model::DeviceCall;
 

@@ -1,11 +1,11 @@
 ghost use Rattle.std.specs.Prelude.{◌≡◌, ◌≤◌, ◌<◌, ◌⊎◌, ◌↔◌, ℕ, ◌+◌, ◌*◌, ◌%◌, ◌/◌, [], ◌∷◌, ◌++◌, length, IfSome, IsSome, Some, IsErr, is_ok, is_err, if◌then◌else◌, OnOk, OnErr, List, Contains, IsTrue, IfOk, IfErr, Ok, Err};
-ghost use Rattle.volume_model.specs.Outcome.{Outcome};
+ghost use Rattle.volume_model.specs.Crash.{Outcome};
 ghost use Rattle.sector_disk.specs.Chosen.{crash_of};
-ghost use Rattle.lufs_base.specs.Causes.{HasCause, Rose, counted};
-ghost use Rattle.volume_model.specs.Image.{sectors_of, overwritten};
+ghost use Rattle.lufs_base.specs.Causes.{counted};
+ghost use Rattle.volume_model.specs.Format.{sectors_of, overwritten};
 ghost use Rattle.volume_model.specs.declared.device_call.DeviceCall.TheVariants.{Write, Flush};
-ghost use Rattle.sector_disk.specs.Disk.{IsWhole, Reads, Writes, Lists, ListsFlush, CountsFailure};
-ghost use Rattle.sector_disk.specs.MemDisk.{new_state, opening_of, starved_more, faulted_more, after_read, after_write, after_flush, record_of};
+ghost use Rattle.sector_disk.specs.Disk.{IsWhole, IsRead, IsUnwritten, HasMade, HasMadePartly, CountsFailure, failed_again};
+ghost use Rattle.sector_disk.specs.MemDisk.{new_state, opening_of, starved_more, faulted_more, after_read, after_write, after_flush, record_of, told_of};
 
 use crate::crash::crash_image;
 use crate::image::put;
@@ -23,7 +23,7 @@ pub enum Fail {
     Flush(u64),
 }
 
-/// A disk in memory, whose calls fail where they are named, and for want of memory.
+/// A disk in memory, whose calls fail where they are named, and since memory ran out.
 #[derive(Debug, Drop)]
 pub struct MemDisk {
     image: Vec<u8>,
@@ -35,7 +35,8 @@ pub struct MemDisk {
     writes: u64,
     flushes: u64,
     faults: u64,
-    // Only contracts read it.
+    // Only contracts read these two.
+    failures: u64,
     failed_at: u64,
     starved: u64,
 }
@@ -55,6 +56,7 @@ impl Model for MemDisk {
       writes = d.writes;
       flushes = d.flushes;
       faults = d.faults;
+      failures = d.failures;
       failed_at = d.failed_at;
       starved = d.starved;
     } };
@@ -103,6 +105,7 @@ impl MemDisk {
             writes: 0,
             flushes: 0,
             faults: 0,
+            failures: 0,
             failed_at: 0,
             starved: 0,
         }
@@ -130,11 +133,12 @@ impl MemDisk {
         ensures { self.new ≡ faulted_more self.old }
     {
         self.faults = self.faults.saturating_add(1);
+        self.failures = self.failures.wrapping_add(1);
         self.failed_at = self.calls.len() as u64;
         DiskFault
     }
 
-    // Counts a call that failed for want of memory.
+    // Counts a call that failed since memory ran out.
     fn starve(&mut self) -> DiskFault
         ensures { self.new ≡ starved_more self.old }
     {
@@ -142,7 +146,7 @@ impl MemDisk {
         self.fault()
     }
 
-    /// How many calls failed for want of memory.
+    /// How many calls failed since memory ran out.
     pub fn starved(&self) -> u64
         ensures { result ≡ self.now.starved }
     {
@@ -151,21 +155,10 @@ impl MemDisk {
 }
 
 impl Disk for MemDisk {
-    ghost use Rattle.std.specs.Prelude.{Some, length, refl};
-    ghost use Rattle.volume_model.specs.Image.{sectors_of};
-    ghost use Rattle.sector_disk.specs.MemDisk.{record_of};
+    ghost use Rattle.std.specs.Prelude.{refl};
+    ghost use Rattle.sector_disk.specs.MemDisk.{told_of};
 
-    ghost sectors = { λ d. sectors_of d.image };
-
-    ghost present = { λ d. Some d.image };
-
-    ghost listed = { λ d. Some (record_of d) };
-
-    ghost calls = { λ d. length d.calls };
-
-    ghost faults = { λ d. d.faults };
-
-    ghost failed_at = { λ d. d.failed_at };
+    ghost told = { λ d. told_of d };
 
     fn sectors(&self) -> u64 {
         self.image.len() as u64 / 512
@@ -186,9 +179,9 @@ impl Disk for MemDisk {
         ensures named { Contains self.old.fails (Fail.Read (counted self.old.reads)) → IsErr result }
         ensures only_named { OnErr result (Contains self.old.fails (Fail.Read (counted self.old.reads))) }
         ensures after { self.new ≡ after_read (is_err result) self.old }
-        ensures bytes { Reads (Some self.old.image) first result out.new }
-        ensures cause { HasCause self.old.faults self.new.faults result }
-        ensures failure { CountsFailure result (length self.new.calls) self.old.faults self.new.faults self.old.failed_at self.new.failed_at }
+        ensures bytes { OnOk result (IsRead first out.new (told_of self.old)) }
+        ensures unwritten { IsUnwritten (told_of self.old) (told_of self.new) }
+        ensures failure { CountsFailure result (told_of self.old) (told_of self.new) }
     {
         self.reads = self.reads.saturating_add(1);
         if is_named(&self.fails, Fail::Read(self.reads)) {
@@ -199,7 +192,7 @@ impl Disk for MemDisk {
         Ok(())
     }
 
-    /// Fails exactly where the call was named, or memory for its place in the list was wanted. In the
+    /// Fails exactly where the call was named, or memory for its place in the list ran out. In the
     /// first case it is listed, and each sector stays old.
     fn write(&mut self, first: u64, bytes: &[u8]) -> Result<(), DiskFault>
         requires whole { IsWhole (length bytes.now) }
@@ -209,9 +202,9 @@ impl Disk for MemDisk {
         ensures err { OnErr result (
             (Contains self.old.fails (Fail.Write (counted self.old.writes)) × (self.new ≡ faulted_more (after_write (Write first bytes.now) self.old.image self.old)))
             ⊎ (self.new ≡ starved_more (record self.old { writes = counted self.old.writes }))) }
-        ensures content { Writes first bytes.now result (Some self.old.image) (Some self.new.image) }
-        ensures cause { HasCause self.old.faults self.new.faults result }
-        ensures failure { CountsFailure result (length self.new.calls) self.old.faults self.new.faults self.old.failed_at self.new.failed_at }
+        ensures made { OnOk result (HasMade (Write first bytes.now ∷ []) (told_of self.old) (told_of self.new)) }
+        ensures failed { OnErr result (HasMadePartly first bytes.now (told_of self.old) (told_of self.new) ⊎ IsUnwritten (told_of self.old) (told_of self.new)) }
+        ensures failure { CountsFailure result (told_of self.old) (told_of self.new) }
     {
         self.writes = self.writes.saturating_add(1);
         let Ok(kept) = Bytes::from_slice(*self.image.allocator(), bytes) else {
@@ -224,6 +217,7 @@ impl Disk for MemDisk {
         if is_named(&self.fails, Fail::Write(self.writes)) {
             // Not by `fault`: until the failure is counted the image doesn't go with the list.
             self.faults = self.faults.saturating_add(1);
+            self.failures = self.failures.wrapping_add(1);
             self.failed_at = self.calls.len() as u64;
             return Err(DiskFault);
         }
@@ -231,15 +225,16 @@ impl Disk for MemDisk {
         Ok(())
     }
 
-    /// Fails exactly where the call was named, or memory for its place in the list was wanted.
+    /// Fails exactly where the call was named, or memory for its place in the list ran out.
     fn flush(&mut self) -> Result<(), DiskFault>
         ensures named { Contains self.old.fails (Fail.Flush (counted self.old.flushes)) → IsErr result }
         ensures ok { OnOk result (self.new ≡ after_flush self.old) }
         ensures err { OnErr result (
             (Contains self.old.fails (Fail.Flush (counted self.old.flushes)) × (self.new ≡ faulted_more (record self.old { flushes = counted self.old.flushes })))
             ⊎ (self.new ≡ starved_more (record self.old { flushes = counted self.old.flushes }))) }
-        ensures cause { HasCause self.old.faults self.new.faults result }
-        ensures failure { CountsFailure result (length self.new.calls) self.old.faults self.new.faults self.old.failed_at self.new.failed_at }
+        ensures made { OnOk result (HasMade (Flush ∷ []) (told_of self.old) (told_of self.new)) }
+        ensures unwritten { OnErr result (IsUnwritten (told_of self.old) (told_of self.new)) }
+        ensures failure { CountsFailure result (told_of self.old) (told_of self.new) }
     {
         self.flushes = self.flushes.saturating_add(1);
         if is_named(&self.fails, Fail::Flush(self.flushes)) {
@@ -260,5 +255,5 @@ impl Disk for MemDisk {
 
     ghost size = { λ d. refl };
 
-    ghost told = { λ d. (refl, refl) };
+    ghost counted = { λ d. (refl, refl) };
 }

@@ -3,4 +3,4 @@ use Rattle.log_scan.proofs.log.read_transactions.Goals as goal
 
 pub returns-clause-log : goal.returns-clause-log
 returns-clause-log g c =
-    ring_told c.args.geometry.now c.args.header.now (g.D.Disk.present c.args.disk.now) c.read_ring.new.out c.transactions.result c.in_ok-read_ring.ensures.ring c.transactions.ensures.value
+    ring_told c.args.geometry.now c.args.header.now (g.D.Disk.told c.args.disk.now).present c.read_ring.new.out c.transactions.result c.in_ok-read_ring.ensures.ring c.transactions.ensures.value

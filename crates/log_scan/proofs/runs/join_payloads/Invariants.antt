@@ -1,6 +1,6 @@
 use Rattle.std.proofs.Common.{◌≡◌, ◌-◌, take, drop}
 use Rattle.volume_model.specs.Log.{payload_of}
-use Rattle.volume_model.specs.Image.{sectors_in}
+use Rattle.volume_model.specs.Format.{sectors_in}
 use Rattle.log_scan.proofs.runs.join_payloads.Given as goal
 
 abbrev pub invariant-loop-i : goal.invariant-loop-i

@@ -1,7 +1,7 @@
 use Rattle.std.proofs.Common.{◌≡◌, ◌+◌, ◌-◌, drop}
 use Rattle.std.specs.List.{prefix_len}
 use Rattle.volume_model.specs.Log.{belongs_to}
-use Rattle.volume_model.specs.Image.{sectors_in}
+use Rattle.volume_model.specs.Format.{sectors_in}
 use Rattle.log_scan.proofs.runs.row_len.Given as goal
 
 abbrev pub invariant-loop-i : goal.invariant-loop-i

@@ -1,7 +1,7 @@
 use Rattle.std.proofs.Common.{rules, ◌≡◌, ◌-◌, ℕ, length, take, drop, sym, ap, ◌∙◌, subst, refl}
 use Rattle.std.proofs.lemmas.List.{take_rest}
-use Rattle.volume_model.specs.Image.{Image}
-use Rattle.volume_model.specs.Outcome.{flushed, pending, image_after}
+use Rattle.volume_model.specs.Format.{Image}
+use Rattle.volume_model.specs.Crash.{flushed, pending, image_after}
 use Rattle.volume_model.proofs.Calls.{flushed-pending}
 use Rattle.volume_model.proofs.Outcomes.{AllInside, inside_left, inside_right, length-image_after}
 use Rattle.sector_disk.proofs.crash.crash_image.Goals as goal

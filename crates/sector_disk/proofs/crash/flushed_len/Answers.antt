@@ -1,5 +1,5 @@
 use Rattle.std.proofs.Common.{arith, ◌≡◌, ◌<◌, ◌+◌, take, drop, length, sym, ◌∙◌, subst, ℕ}
-use Rattle.volume_model.specs.Outcome.{flushed, pending}
+use Rattle.volume_model.specs.Crash.{flushed, pending}
 use Rattle.sector_disk.proofs.CrashSteps.{at_flush, at_write}
 use Rattle.sector_disk.proofs.crash.flushed_len.Goals as goal
 use Rattle.sector_disk.proofs.crash.flushed_len.Goals.{in-Flush, in-Write}

@@ -1,5 +1,5 @@
 use Rattle.std.proofs.Common.{◌≡◌, ◌≤◌, take, drop}
-use Rattle.volume_model.specs.Outcome.{flushed, pending}
+use Rattle.volume_model.specs.Crash.{flushed, pending}
 use Rattle.sector_disk.proofs.crash.flushed_len.Given as goal
 
 abbrev pub invariant-loop-call : goal.invariant-loop-call

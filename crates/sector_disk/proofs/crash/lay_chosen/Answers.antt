@@ -1,7 +1,7 @@
 use Rattle.std.proofs.Common.{◌≡◌, ◌≤◌, ℕ, ◌+◌, ◌*◌, length, drop, get_or, Some, sym, ap, ◌∙◌, arith}
 use Rattle.std.specs.Option.{option_copied}
 use Rattle.std.proofs.lemmas.List.{get_or_default}
-use Rattle.volume_model.specs.Image.{Image}
+use Rattle.volume_model.specs.Format.{Image}
 use Rattle.volume_model.proofs.Sectors.{length-overwritten}
 use Rattle.sector_disk.specs.Chosen.{nth_written, with_choice}
 use Rattle.sector_disk.proofs.CrashSteps.{nth_inside, choice_on}

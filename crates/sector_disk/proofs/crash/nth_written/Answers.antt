@@ -1,6 +1,6 @@
 use Rattle.std.proofs.Common.{arith, ◌≡◌, ◌<◌, ◌+◌, ◌-◌, ◌*◌, ◌/◌, ℕ, List, length, take, drop, Some, sym, ◌∙◌, ap}
 use Rattle.std.specs.Prelude.{slice_get}
-use Rattle.volume_model.specs.Outcome.{written_to}
+use Rattle.volume_model.specs.Crash.{written_to}
 use Rattle.sector_disk.proofs.CrashSteps.{found}
 use Rattle.sector_disk.proofs.crash.nth_written.Goals as goal
 

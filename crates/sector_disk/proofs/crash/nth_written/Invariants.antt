@@ -1,6 +1,6 @@
 use Rattle.std.proofs.Common.{◌≡◌, drop}
 use Rattle.std.specs.Prelude.{slice_get}
-use Rattle.volume_model.specs.Outcome.{written_to}
+use Rattle.volume_model.specs.Crash.{written_to}
 use Rattle.sector_disk.specs.Chosen.{nth_written}
 use Rattle.sector_disk.proofs.crash.nth_written.Given as goal
 

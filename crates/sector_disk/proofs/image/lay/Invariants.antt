@@ -1,5 +1,5 @@
 use Rattle.std.proofs.Common.{◌≡◌, drop, length}
-use Rattle.volume_model.specs.Outcome.{image_after}
+use Rattle.volume_model.specs.Crash.{image_after}
 use Rattle.sector_disk.proofs.image.lay.Given as goal
 
 abbrev pub invariant-loop-call : goal.invariant-loop-call

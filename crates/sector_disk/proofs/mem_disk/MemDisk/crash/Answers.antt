@@ -1,6 +1,6 @@
 use Rattle.std.proofs.Common.{rules, ◌≡◌, subst}
 use Rattle.std.proofs.lemmas.Result.{IfOk-weaker}
-use Rattle.volume_model.specs.Record.{IsOfSectors}
+use Rattle.volume_model.specs.Crash.{IsOfSectors}
 use Rattle.sector_disk.specs.MemDisk.{State, record_of}
 use Rattle.sector_disk.proofs.CrashSteps.{crash_is_outcome}
 use Rattle.sector_disk.proofs.mem_disk.MemDisk.crash.Goals as goal

@@ -1,0 +1,80 @@
+-- What a host in memory tells after a name stands for something else.
+use Rattle.std.proofs.Common.{◌≡◌, Bool, true, false, cond, List, ℕ, Some, None, refl, ◌∙◌, ap, ◌*◌, arith}
+use Rattle.std.proofs.lemmas.List.{length-replicate}
+use Rattle.std.specs.Prelude.{bytes_eq}
+use Rattle.std.proofs.Math.Path.{fun_ext}
+use Rattle.sector_disk.specs.Disk.{DiskTold, IsZeroDisk}
+use Rattle.sector_disk.specs.MemDisk.{State as DiskState, told_of as disk_told}
+use Rattle.host_io.specs.declared.host.Ask.{Ask}
+use Rattle.host_io.specs.MemSink.{State as SinkState, told_of as sink_told}
+use Rattle.host_io.specs.MemHost.{zeros_of, there_or_zeros}
+use Rattle.host_io.specs.Outside.{Outside, SinkTold, StartsAs}
+use Rattle.host_io.specs.Places.{Place, Places, nothing, here, lent, here_of, place_map, with_place}
+
+-- what stands there of what is told is told of what stands there
+pub told_lent : {T U : Type 0} (told : T → U) (place : Place T) → place_map told place ≡ lent → place ≡ lent
+told_lent told nothing is = cc
+told_lent told (here x) is = cc
+told_lent told lent is = refl
+
+pub told_here : {T U : Type 0} (told : T → U) (place : Place T) (x : T) → here_of place ≡ Some x → here_of (place_map told place) ≡ Some (told x)
+told_here told nothing x is = cc
+told_here told (here y) x is = cc
+told_here told lent x is = cc
+
+pub told_none : {T U : Type 0} (told : T → U) (place : Place T) → here_of place ≡ None → here_of (place_map told place) ≡ None
+told_none told nothing is = refl
+told_none told (here y) is = cc
+told_none told lent is = refl
+
+chosen_told : {T U : Type 0} (told : T → U) (b : Bool) (p q : Place T) → place_map told (cond b p q) ≡ cond b (place_map told p) (place_map told q)
+chosen_told told true p q = refl
+chosen_told told false p q = refl
+
+-- one name stands for something else, so it does in what is told
+pub told_with_place : {T U : Type 0} (told : T → U) (new old : Places T) (name : List ℕ) (p : Place T) → new ≡ with_place old name p
+    → (λ q. place_map told (new q)) ≡ with_place (λ q. place_map told (old q)) name (place_map told p)
+told_with_place told new old name p is =
+    fun_ext (λ q. ap (λ (places : Places _). place_map told (places q)) is ∙ chosen_told told (bytes_eq name q) p (old q))
+
+-- the outside that is told of these
+abbrev pub outside_with : (moment faults absent : ℕ) → List Ask → Places DiskTold → Places SinkTold → Outside
+outside_with moment faults absent asks disks sinks = record {
+  moment = Some moment;
+  asks = Some asks;
+  holds = Some (record { disks = disks; sinks = sinks });
+  faults = faults;
+  absent = absent;
+}
+
+module _ (moment faults absent : ℕ) (asks listed : List Ask) (same : asks ≡ listed) (name : List ℕ) where
+  pub outside_with-disk : (new old : Places DiskState) (sinks : Places SinkTold) (p : Place DiskState) → new ≡ with_place old name p
+      → outside_with moment faults absent asks (λ q. place_map disk_told (new q)) sinks
+      ≡ outside_with moment faults absent listed (with_place (λ q. place_map disk_told (old q)) name (place_map disk_told p)) sinks
+  outside_with-disk new old sinks p is =
+      ap (λ (a : List Ask). outside_with moment faults absent a (λ q. place_map disk_told (new q)) sinks) same
+      ∙ ap (λ (d : Places DiskTold). outside_with moment faults absent listed d sinks) (told_with_place disk_told new old name p is)
+
+  pub outside_with-sink : (new old : Places SinkState) (disks : Places DiskTold) (p : Place SinkState) → new ≡ with_place old name p
+      → outside_with moment faults absent asks disks (λ q. place_map sink_told (new q))
+      ≡ outside_with moment faults absent listed disks (with_place (λ q. place_map sink_told (old q)) name (place_map sink_told p))
+  outside_with-sink new old disks p is =
+      ap (λ (a : List Ask). outside_with moment faults absent a disks (λ q. place_map sink_told (new q))) same
+      ∙ ap (λ (k : Places SinkTold). outside_with moment faults absent listed disks k) (told_with_place sink_told new old name p is)
+
+zeros_told : (sectors : ℕ) → IsZeroDisk sectors (disk_told (zeros_of sectors))
+zeros_told sectors = record {
+  size = omega (arith, length-replicate {A = ℕ} (512 * sectors) 0);
+  zeros = refl;
+  no_call = refl;
+  calls = refl;
+  failures = refl;
+  failed_at = refl;
+  faults = refl;
+}
+
+-- a disk that a host lends or makes starts as the one that was there, or as zeros
+pub told_start : (place : Place DiskState) (sectors : ℕ) → StartsAs (here_of (place_map disk_told place)) sectors (disk_told (there_or_zeros (here_of place) sectors))
+told_start nothing sectors = zeros_told sectors
+told_start (here x) sectors = refl
+told_start lent sectors = zeros_told sectors

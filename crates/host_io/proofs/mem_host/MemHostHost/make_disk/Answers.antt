@@ -1,0 +1,20 @@
+use Rattle.std.proofs.Common.{rules}
+use Rattle.host_io.specs.MemSink.{told_of as sink_told}
+use Rattle.host_io.specs.Named.{places_of}
+use Rattle.host_io.specs.Places.{lent, place_map}
+use Rattle.host_io.proofs.HostTold.{outside_with-disk, told_start}
+use Rattle.host_io.proofs.mem_host.MemHostHost.make_disk.Goals as goal
+
+-- the call is the one that was looked up
+pub returns-then-is_named-clause-only_named : goal.returns-then-is_named-clause-only_named
+returns-then-is_named-clause-only_named c =
+    rw (← c.self.view_is, ← c.deref.ensures.value, ← c.saturating_add-self-inside.ensures) (λ _. c.is_named.ensures.0 c.if-is_named.true)
+
+pub returns-clause-after : goal.returns-clause-after
+returns-clause-after c =
+    let s = c.self.inside in
+    rw (← c.self.view_is) (outside_with-disk s.moment s.faults s.absent c.list-2.new.asks.items _ (search rules) c.args.name.now (places_of c.lend_or_make.new.disks.items) (places_of s.disks.items) (λ q. place_map sink_told (places_of s.sinks.items q)) lent (rw c.as_bytes.ensures.value at c.in_ok-disk.ensures.ok))
+
+pub returns-clause-given : goal.returns-clause-given
+returns-clause-given c =
+    λ _. rw (← c.self.view_is, c.in_ok-disk.ensures.value, c.as_bytes.ensures.value) (told_start (places_of c.self.inside.disks.items c.args.name.now) c.args.sectors)
