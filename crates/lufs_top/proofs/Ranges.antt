@@ -3,9 +3,9 @@ use Rattle.std.proofs.Common.{◌≡◌, ◌≤◌, ℕ, Bool, true, false, Opti
 use Rattle.std.specs.Prelude.{not, if◌then◌else◌, ◌%◌}
 use Rattle.std.proofs.lemmas.Bool.{and_parts, leb-true, eqb-true}
 use Rattle.lufs_base.specs.Layout.{IsGeometry}
-use Rattle.volume_model.specs.Superblock.{is_step}
-use Rattle.lufs_top.specs.declared.words.VolumeNumbers.{VolumeNumbers}
-use Rattle.lufs_top.specs.declared.ending.BadNumber.{BadNumber}
+use Rattle.lufs_base.specs.Layout.{is_step}
+use Rattle.lufs_top.specs.declared.numbers.VolumeNumbers.{VolumeNumbers}
+use Rattle.lufs_top.specs.declared.numbers.BadNumber.{BadNumber}
 use Rattle.lufs_top.specs.Numbers.{first_out_of_range, geometry_from}
 
 passed : (test : Bool) (bad : BadNumber) (rest : Option BadNumber) → (if not test then Some bad else rest) ≡ None → (test ≡ true) × (rest ≡ None)

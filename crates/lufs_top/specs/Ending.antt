@@ -1,81 +1,65 @@
 -- How a command ends: its status and its text.
-use Rattle.std.specs.Prelude.{◌≡◌, ℕ, List, [], ◌∷◌, ◌++◌, Some, None, codes, string_bytes}
+use Rattle.std.specs.Prelude.{◌≡◌, ℕ, List, [], ◌∷◌, ◌++◌, codes, string_bytes}
 use Rattle.std.specs.Fmt.{decimal}
-use Rattle.lufs_base.specs.declared.geometry.Geometry.{Geometry}
-use Rattle.volume_model.specs.declared.log.Header.{Header}
-use Rattle.volume_model.specs.Image.{Image}
-use Rattle.volume_model.specs.Superblock.{geometry_of}
-use Rattle.volume_model.specs.Log.{NoHeader, Behind, BadRun as LogBadRun, log_of}
-use Rattle.volume_model.specs.ScanText.{scan_text_of}
-use Rattle.log_scan.specs.declared.log.ScanError.{ScanError}
-use Rattle.log_scan.specs.declared.log.ScanError.TheVariants as scans
-use Rattle.lufs_top.specs.declared.ending.GeometryWord.{GeometryWord}
-use Rattle.lufs_top.specs.declared.ending.GeometryWord.TheVariants as words
+use Rattle.host_io.specs.declared.host.HostError.{HostError}
+use Rattle.host_io.specs.declared.host.HostError.TheVariants as hosts
+use Rattle.lufs_top.specs.Numbers.{name_of_number}
 use Rattle.lufs_top.specs.declared.ending.Ending.{Ending}
-use Rattle.lufs_top.specs.declared.ending.Ending.TheVariants.{Done, Usage, Missing, DiskFault, NotVolume, Geometry as BadGeometry, BadHeader, BadRun, NoMemory}
+use Rattle.lufs_top.specs.declared.ending.Ending.TheVariants.{Usage, Missing, DiskFault, NoMemory, Scan, Mkfs}
+use Rattle.lufs_top.specs.declared.scan.ScanEnding.{ScanEnding}
+use Rattle.lufs_top.specs.declared.scan.ScanEnding.TheVariants.{Listed, NotVolume, BadHeader, BadRun}
+use Rattle.lufs_top.specs.declared.mkfs.MkfsEnding.{MkfsEnding}
+use Rattle.lufs_top.specs.declared.mkfs.MkfsEnding.TheVariants.{Made, Refused}
+
+abbrev pub scan_status : ScanEnding → ℕ
+scan_status (Listed text) = 0
+scan_status NotVolume = 6
+scan_status BadHeader = 11
+scan_status (BadRun tid place) = 11
+
+abbrev pub mkfs_status : MkfsEnding → ℕ
+mkfs_status (Made text) = 0
+mkfs_status (Refused bad) = 10
 
 abbrev pub status_of : Ending → ℕ
-status_of (Done text) = 0
 status_of Usage = 1
-status_of Missing = 2
-status_of DiskFault = 4
-status_of NotVolume = 6
-status_of (BadGeometry bad) = 10
-status_of BadHeader = 11
-status_of (BadRun tid place) = 11
+status_of (Missing name) = 2
+status_of (DiskFault name) = 4
 status_of NoMemory = 12
+status_of (Scan volume ended) = scan_status ended
+status_of (Mkfs ended) = mkfs_status ended
 
--- words and a name behind them, as one line
+-- words and a name after them, as one line
 abbrev pub line_of : List ℕ → List ℕ → List ℕ
 line_of words name = words ++ (32 ∷ (name ++ 10 ∷ []))
 
--- what the number of a new volume is called
-abbrev pub name_of_number : GeometryWord → List ℕ
-name_of_number words.Groups = codes "G"
-name_of_number words.Bpg = codes "bpg"
-name_of_number words.Ipg = codes "ipg"
-name_of_number words.Log = codes "L"
-name_of_number words.Sectors = codes "sectors"
+-- what is printed of a volume of this name
+abbrev pub scan_line : List ℕ → ScanEnding → List ℕ
+scan_line volume (Listed text) = string_bytes text
+scan_line volume NotVolume = line_of (codes "not a volume") volume
+scan_line volume BadHeader = codes "bad log header\n"
+scan_line volume (BadRun tid place) = line_of (codes "bad log") (decimal tid ++ (32 ∷ decimal place))
 
--- what is printed, where the words named this volume
-abbrev pub text_of : List ℕ → Ending → List ℕ
-text_of name (Done text) = string_bytes text
-text_of name Usage = codes "usage\n"
-text_of name Missing = line_of (codes "missing") name
-text_of name DiskFault = line_of (codes "disk fault") name
-text_of name NotVolume = line_of (codes "not a volume") name
-text_of name (BadGeometry bad) = codes "geometry " ++ (name_of_number bad.word ++ (32 ∷ (decimal bad.number ++ 10 ∷ [])))
-text_of name BadHeader = codes "bad log header\n"
-text_of name (BadRun tid place) = codes "bad log " ++ (decimal tid ++ (32 ∷ (decimal place ++ 10 ∷ [])))
-text_of name NoMemory = codes "no memory\n"
+abbrev pub mkfs_line : MkfsEnding → List ℕ
+mkfs_line (Made text) = string_bytes text
+mkfs_line (Refused bad) = line_of (codes "geometry") (name_of_number bad.word ++ (32 ∷ decimal bad.number))
 
--- the ending of a command whose scan ended so
-abbrev pub ending_of_error : ScanError → Ending
-ending_of_error scans.Disk = DiskFault
-ending_of_error scans.BadHeader = BadHeader
-ending_of_error (scans.BadLog tid place) = BadRun tid place
-ending_of_error scans.Mem = NoMemory
+-- what is printed
+abbrev pub text_of : Ending → List ℕ
+text_of Usage = codes "usage\n"
+text_of (Missing name) = line_of (codes "missing") name.now
+text_of (DiskFault name) = line_of (codes "disk fault") name.now
+text_of NoMemory = codes "no memory\n"
+text_of (Scan volume ended) = scan_line volume.now ended
+text_of (Mkfs ended) = mkfs_line ended
 
--- What an ending of `scan` says of the image that was read. A fault and want of memory say nothing.
-abbrev pub IsEndingOf : Image → Ending → Type 0
-IsEndingOf image (Done text) = scan_text_of image ≡ Some (string_bytes text)
-IsEndingOf image Usage = Unit {0}
-IsEndingOf image Missing = Unit {0}
-IsEndingOf image DiskFault = Unit {0}
-IsEndingOf image NotVolume = geometry_of image ≡ None
-IsEndingOf image (BadGeometry bad) = ⊥
-IsEndingOf image BadHeader = (g : Geometry) × (geometry_of image ≡ Some g) × (log_of g image ≡ NoHeader)
-IsEndingOf image (BadRun tid place) = (g : Geometry) × (h : Header) × (geometry_of image ≡ Some g) × (log_of g image ≡ Behind h (LogBadRun tid place))
-IsEndingOf image NoMemory = Unit {0}
+-- the ending tells of this error of the host, at this name
+abbrev pub IsRefusal : HostError → List ℕ → Ending → Type 0
+IsRefusal hosts.Missing name (Missing at) = at.now ≡ name
+IsRefusal hosts.Failed name (DiskFault at) = at.now ≡ name
+IsRefusal hosts.Mem name NoMemory = Unit {0}
+IsRefusal error name ending = ⊥
 
--- endings that reading a volume can have
-abbrev pub IsOfVolume : Ending → Type 0
-IsOfVolume (Done text) = Unit {0}
-IsOfVolume Usage = ⊥
-IsOfVolume Missing = ⊥
-IsOfVolume DiskFault = Unit {0}
-IsOfVolume NotVolume = Unit {0}
-IsOfVolume (BadGeometry bad) = ⊥
-IsOfVolume BadHeader = Unit {0}
-IsOfVolume (BadRun tid place) = Unit {0}
-IsOfVolume NoMemory = Unit {0}
+abbrev pub IsDiskFault : Ending → Type 0
+IsDiskFault (DiskFault at) = Unit {0}
+IsDiskFault ending = ⊥

@@ -1,8 +1,7 @@
 pub mod Numbers
 pub mod Words
 pub mod Ending
-pub mod Run
+pub mod Borrowed
+pub mod Scan
 pub mod Mkfs
-pub mod MkfsCrash
-pub mod MkfsRun
-pub mod NewVolume
+pub mod Run

@@ -1,91 +1,64 @@
--- How `mkfs` goes about its work: the bytes of each group's metadata, and the calls of the disk in order.
-use Rattle.std.specs.Prelude.{◌≡◌, ℕ, ◌-◌, ◌*◌, ◌/◌, ◌==◌, if◌then◌else◌, List, [], ◌∷◌, ◌++◌, length, map, take, replicate, Option, Some, option_map, Result, OnOk, OnErr}
-use Rattle.std.specs.List.{range_with_len}
-use Rattle.lufs_base.specs.Layout.{group_start}
+-- What the command `mkfs` does and says.
+use Rattle.std.specs.Prelude.{◌≡◌, ◌<◌, ◌≤◌, ℕ, ◌*◌, ◌^◌, List, Some, None, IfSome, string_bytes}
+use Rattle.lufs_base.specs.Layout.{blocks_of}
 use Rattle.lufs_base.specs.declared.geometry.Geometry.{Geometry}
-use Rattle.volume_model.specs.declared.device_call.DeviceCall.{DeviceCall}
-use Rattle.volume_model.specs.declared.device_call.DeviceCall.TheVariants.{Write, Flush}
-use Rattle.volume_model.specs.Image.{Image}
-use Rattle.volume_model.specs.Record.{Record, with_calls}
-use Rattle.volume_model.specs.Outcome.{image_after}
-use Rattle.volume_model.specs.Superblock.{super_bytes}
-use Rattle.volume_model.specs.LogHeader.{header_bytes}
-use Rattle.volume_model.specs.GroupRecord.{group_bytes}
-use Rattle.volume_model.specs.InodeRecord.{dinode_bytes}
-use Rattle.volume_model.specs.DirectoryChunk.{new_directory, chunk_bytes}
-use Rattle.volume_model.specs.MkfsImage.{made_header, made_group, made_root, block_with}
+use Rattle.volume_model.specs.Texts.{mkfs_text}
+use Rattle.sector_disk.specs.Continued.{CrashLeaves}
+use Rattle.sector_disk.specs.Disk.{DiskTold, IsUnwritten, FailsJustAt}
+use Rattle.new_volume.specs.MkfsCrash.{IsMkfsOutcome}
+use Rattle.new_volume.specs.NewVolume.{HoldsNewVolume}
+use Rattle.new_volume.specs.declared.make.MkfsError.{MkfsError}
+use Rattle.new_volume.specs.declared.make.MkfsError.TheVariants as errors
+use Rattle.host_io.specs.declared.host.HostError.{HostError}
+use Rattle.host_io.specs.Outside.{Outside}
+use Rattle.lufs_top.specs.declared.ending.Ending.{Ending}
+use Rattle.lufs_top.specs.declared.ending.Ending.TheVariants.{DiskFault, NoMemory, Mkfs}
+use Rattle.lufs_top.specs.declared.mkfs.MkfsEnding.{MkfsEnding}
+use Rattle.lufs_top.specs.declared.mkfs.MkfsEnding.TheVariants.{Made, Refused}
+use Rattle.lufs_top.specs.declared.numbers.BadNumber.{BadNumber}
+use Rattle.lufs_top.specs.declared.numbers.GeometryWord.TheVariants.{Sectors}
+use Rattle.lufs_top.specs.declared.numbers.VolumeNumbers.{VolumeNumbers}
+use Rattle.lufs_top.specs.Borrowed.{IsNotMade, IsMade}
+use Rattle.lufs_top.specs.Ending.{IsRefusal, IsDiskFault}
+use Rattle.lufs_top.specs.Numbers.{first_out_of_range, geometry_from}
 
--- the sectors of the log
-abbrev pub log_bytes : Geometry → List ℕ
-log_bytes g = header_bytes made_header ++ replicate (512 * (g.log - 1)) 0
+-- the number is that of the disk's sectors, which are too few, and the disk is unwritten
+pub record IsTooSmall (g : Geometry) (bad : BadNumber) (before now : DiskTold) : Type 0 where
+  pub word : bad.word ≡ Sectors
+  pub number : bad.number ≡ before.sectors
+  pub few : bad.number < 8 * blocks_of g
+  pub unwritten : IsUnwritten before now
 
--- the group block of group n
-abbrev pub group_block_of : Geometry → ℕ → List ℕ
-group_block_of g n = block_with 0 (group_bytes (made_group g n))
+-- what came of making a volume is true of the disk before and now
+abbrev pub IsMkfsOf : Geometry → (moment : ℕ) → MkfsEnding → DiskTold → DiskTold → Type 0
+IsMkfsOf g moment (Made text) before now = (string_bytes text ≡ mkfs_text g) × HoldsNewVolume g moment before now
+IsMkfsOf g moment (Refused bad) before now = IsTooSmall g bad before now
 
--- the group block of the first group, its inode blocks, the first of which has the root, and the root's block
-abbrev pub first_metadata : Geometry → ℕ → List ℕ
-first_metadata g moment =
-    group_block_of g 0 ++ (block_with 256 (dinode_bytes (Some (made_root g moment))) ++ (replicate (4096 * (g.ipg / 32 - 1)) 0
-    ++ block_with 0 (chunk_bytes (new_directory 2 2))))
+-- The same of an ending, for the disk of this name. Where memory ran out no write was made.
+abbrev pub IsMkfsEnding : (volume : List ℕ) → Geometry → (moment : ℕ) → Ending → DiskTold → DiskTold → Type 0
+IsMkfsEnding volume g moment (Mkfs ended) before now = IsMkfsOf g moment ended before now
+IsMkfsEnding volume g moment (DiskFault at) before now = at.now ≡ volume
+IsMkfsEnding volume g moment NoMemory before now = IsUnwritten before now
+IsMkfsEnding volume g moment ending before now = ⊥
 
--- the group block of another group, and its inode blocks
-abbrev pub other_metadata : Geometry → ℕ → List ℕ
-other_metadata g n = group_block_of g n ++ replicate (4096 * (g.ipg / 32)) 0
+-- the ending tells of this error of the work on the disk of this name
+abbrev pub IsMkfsFailure : MkfsError → (volume : List ℕ) → Ending → Type 0
+IsMkfsFailure (errors.Sectors number) volume (Mkfs (Refused bad)) = (bad.word ≡ Sectors) × (bad.number ≡ number)
+IsMkfsFailure errors.Disk volume (DiskFault at) = at.now ≡ volume
+IsMkfsFailure errors.Mem volume NoMemory = Unit {0}
+IsMkfsFailure error volume ending = ⊥
 
--- a block, and room for the inode blocks of a group but the first, which are zeros
-abbrev pub IsRoom : Geometry → List ℕ → Type 0
-IsRoom g bytes = (front : List ℕ) × (length front ≡ 4096) × (bytes ≡ front ++ replicate (4096 * (g.ipg / 32)) 0)
-
--- the metadata of group n, where this is the first group's
-abbrev pub metadata_with : Geometry → List ℕ → ℕ → List ℕ
-metadata_with g first n = if n == 0 then first else other_metadata g n
-
-abbrev pub metadata_of : Geometry → ℕ → ℕ → List ℕ
-metadata_of g moment n = metadata_with g (first_metadata g moment) n
-
--- the calls that write sector 16, and keep it
-abbrev pub sealing : List ℕ → List DeviceCall
-sealing sector = Write 16 sector ∷ (Flush ∷ [])
-
-abbrev pub clearing : List DeviceCall
-clearing = sealing (replicate 512 0)
-
--- the call that writes the metadata of group n
-abbrev pub group_call : Geometry → List ℕ → ℕ → DeviceCall
-group_call g first n = Write (8 * group_start g n) (metadata_with g first n)
-
--- those of the first n groups
-abbrev pub group_calls : Geometry → List ℕ → ℕ → List DeviceCall
-group_calls g first n = map (group_call g first) (range_with_len 0 n)
-
--- those of the log and of all groups, and the flush that keeps them
-abbrev pub filling_with : Geometry → (log first : List ℕ) → List DeviceCall
-filling_with g log first = Write 24 log ∷ (group_calls g first g.groups ++ (Flush ∷ []))
-
-abbrev pub filling : Geometry → ℕ → List DeviceCall
-filling g moment = filling_with g (log_bytes g) (first_metadata g moment)
-
--- all calls, where the log and the first group's metadata are these
-abbrev pub volume_calls : Geometry → (log first : List ℕ) → List DeviceCall
-volume_calls g log first = clearing ++ (filling_with g log first ++ sealing (super_bytes g))
-
--- all calls, in order: no volume any more, then all that the superblock names, then the superblock
-abbrev pub mkfs_calls : Geometry → ℕ → List DeviceCall
-mkfs_calls g moment = volume_calls g (log_bytes g) (first_metadata g moment)
-
--- These calls were made and listed.
-pub record HasMade (calls : List DeviceCall) (present_before present_now : Option Image) (listed_before listed_now : Option Record) : Type 0 where
-  pub content : present_now ≡ option_map (λ image. image_after image calls) present_before
-  pub list : listed_now ≡ option_map (λ r. with_calls r calls) listed_before
-
--- All of these calls were made, or at an error no others than the first of them were listed.
-pub record Makes {T E : Type 0} (calls : List DeviceCall) (result : Result T E) (present_before present_now : Option Image) (listed_before listed_now : Option Record) : Type 0 where
-  pub ok : OnOk result (HasMade calls present_before present_now listed_before listed_now)
-  pub err : OnErr result ((n : ℕ) × (listed_now ≡ option_map (λ r. with_calls r (take n calls)) listed_before))
-
--- nothing was written, and nothing listed
-pub record IsUntouched (present_before present_now : Option Image) (listed_before listed_now : Option Record) (calls_before calls_now : ℕ) : Type 0 where
-  pub content : present_now ≡ present_before
-  pub list : listed_now ≡ listed_before
-  pub calls : calls_now ≡ calls_before
+-- How `mkfs` of these numbers, under this name, ended, and what it did to the outside.
+pub data MkfsRan (volume : List ℕ) (numbers : VolumeNumbers) (ending : Ending) (old new : Outside) : Type 0 where
+  -- a number is out of its range, and the host was asked for nothing
+  out_of_range : (bad : BadNumber) → first_out_of_range numbers ≡ Some bad → ending ≡ Mkfs (Refused bad) → new ≡ old → MkfsRan volume numbers ending old new
+  -- memory ran out before the host was asked
+  no_memory : first_out_of_range numbers ≡ None → ending ≡ NoMemory → new ≡ old → MkfsRan volume numbers ending old new
+  -- the host gave no disk
+  not_made : (error : HostError) → first_out_of_range numbers ≡ None → IsRefusal error volume ending → IsNotMade volume error old new → MkfsRan volume numbers ending old new
+  -- Work on the disk began, at the host's moment. Whenever a crash comes in it, it leaves what a crash of `mkfs` may leave.
+  -- The ending is a disk fault just where one of the disk's calls failed, the last one.
+  worked : (moment : ℕ) → IfSome old.moment (λ told. moment ≡ told) → moment < 2 ^ 64 → first_out_of_range numbers ≡ None
+      → (before now : DiskTold) → IsMade volume (8 * blocks_of (geometry_from numbers)) before now old new
+      → CrashLeaves (IsMkfsOutcome (geometry_from numbers) moment) before now → FailsJustAt (IsDiskFault ending) before now
+      → IsMkfsEnding volume (geometry_from numbers) moment ending before now → MkfsRan volume numbers ending old new

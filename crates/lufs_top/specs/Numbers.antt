@@ -1,11 +1,12 @@
 -- The numbers in the words of a command, and the ranges of a new volume's numbers.
-use Rattle.std.specs.Prelude.{ℕ, ◌+◌, ◌-◌, ◌*◌, ◌^◌, ◌==◌, nat_lt, Bool, not, ◌&&◌, if◌then◌else◌, List, [], ◌∷◌, length, slice_index, Option, Some, None}
+use Rattle.std.specs.Prelude.{ℕ, ◌+◌, ◌-◌, ◌*◌, ◌^◌, ◌==◌, nat_lt, Bool, not, ◌&&◌, if◌then◌else◌, List, [], ◌∷◌, length, slice_index, Option, Some, None, codes}
 use Rattle.std.specs.Str.{all_ascii_digits}
 use Rattle.lufs_base.specs.declared.geometry.Geometry.{Geometry}
-use Rattle.volume_model.specs.Superblock.{is_step}
-use Rattle.lufs_top.specs.declared.words.VolumeNumbers.{VolumeNumbers}
-use Rattle.lufs_top.specs.declared.ending.BadNumber.{BadNumber}
-use Rattle.lufs_top.specs.declared.ending.GeometryWord.TheVariants.{Groups, Bpg, Ipg, Log}
+use Rattle.lufs_base.specs.Layout.{is_step}
+use Rattle.lufs_top.specs.declared.numbers.VolumeNumbers.{VolumeNumbers}
+use Rattle.lufs_top.specs.declared.numbers.BadNumber.{BadNumber}
+use Rattle.lufs_top.specs.declared.numbers.GeometryWord.{GeometryWord}
+use Rattle.lufs_top.specs.declared.numbers.GeometryWord.TheVariants.{Groups, Bpg, Ipg, Log, Sectors}
 
 -- the number that digits give, behind the digits of n
 abbrev pub digits_from : ℕ → List ℕ → ℕ
@@ -38,3 +39,11 @@ first_out_of_range n =
 -- the geometry of these numbers
 abbrev pub geometry_from : VolumeNumbers → Geometry
 geometry_from n = record { version = 1; groups = n.groups; bpg = n.bpg; ipg = n.ipg; log = n.log }
+
+-- what a number of a new volume is called
+abbrev pub name_of_number : GeometryWord → List ℕ
+name_of_number Groups = codes "G"
+name_of_number Bpg = codes "bpg"
+name_of_number Ipg = codes "ipg"
+name_of_number Log = codes "L"
+name_of_number Sectors = codes "sectors"

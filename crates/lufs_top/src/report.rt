@@ -1,38 +1,98 @@
-ghost use Rattle.std.specs.Prelude.{◌≡◌, ◌≤◌, ◌⊎◌, ◌++◌, option_map};
-ghost use Rattle.lufs_base.specs.Causes.{Rose};
-ghost use Rattle.lufs_top.specs.Run.{Prints, Says};
+ghost use Rattle.std.specs.Prelude.{◌≡◌, ◌∷◌, ◌++◌};
+ghost use Rattle.std.specs.Fmt.{decimal};
+ghost use Rattle.host_io.specs.Outside.{Puts};
+ghost use Rattle.lufs_top.specs.Ending.{line_of, text_of, scan_line, mkfs_line};
+ghost use Rattle.lufs_top.specs.Run.{Says, status_if_cut};
 
 use crate::ending::Ending;
-use host_io::Sink;
-use std::alloc::Global;
+use crate::mkfs::MkfsEnding;
+use crate::numbers::BadNumber;
+use crate::scan::ScanEnding;
+use host_io::{Sink, SinkFault};
+use itoa::Buffer;
 
-/// The status of a sink that failed.
+/// The status of a sink that failed, or that the host didn't give.
 pub(crate) const REPLY_FAULT: u8 = 5;
 
-/// The status of want of memory.
-pub const NO_MEMORY: u8 = 12;
-
-// Puts the text, and answers the status, or where the put failed in place of success that it failed.
-fn put_text<K: Sink>(out: &mut K, text: &[u8], status: u8) -> u8
-    ensures prints { Prints text.now (K.faults out.old) (K.faults out.new) (K.held out.old) (K.held out.new) }
-    ensures whole { result ≡ 0 → K.held out.new ≡ option_map (λ held. held ++ text.now) (K.held out.old) }
-    ensures status { (result ≡ status) ⊎ ((status ≡ 0) × (result ≡ 5) × Rose (K.faults out.old) (K.faults out.new)) }
-    ensures later { K.faults out.old ≤ K.faults out.new }
+// Puts two texts, one after the other.
+fn put_both<K: Sink>(out: &mut K, first: &[u8], second: &[u8]) -> Result<(), SinkFault>
+    ensures { Puts (first.now ++ second.now) result (K.told out.old) (K.told out.new) }
 {
-    match out.put(text) {
-        Err(_) if status == 0 => REPLY_FAULT,
-        _ => status,
+    out.put(first)?;
+    out.put(second)
+}
+
+// Puts words and a name after them, as one line.
+fn put_line<K: Sink>(out: &mut K, words: &[u8], name: &[u8]) -> Result<(), SinkFault>
+    ensures { Puts (line_of words.now name.now) result (K.told out.old) (K.told out.new) }
+{
+    put_both(out, words, b" ")?;
+    put_both(out, name, b"\n")
+}
+
+// Puts words, a name and a number after them, as one line.
+fn put_number<K: Sink>(out: &mut K, words: &[u8], name: &[u8], number: u64) -> Result<(), SinkFault>
+    ensures { Puts (line_of words.now (name.now ++ (32 ∷ decimal number))) result (K.told out.old) (K.told out.new) }
+{
+    let mut buffer = Buffer::new();
+    put_both(out, words, b" ")?;
+    put_both(out, name, b" ")?;
+    put_both(out, buffer.format(number).as_bytes(), b"\n")
+}
+
+fn put_scan<K: Sink>(out: &mut K, volume: &str, ended: &ScanEnding) -> Result<(), SinkFault>
+    ensures { Puts (scan_line volume.now ended.now) result (K.told out.old) (K.told out.new) }
+{
+    match ended {
+        ScanEnding::Listed(text) => out.put(text.as_bytes()),
+        ScanEnding::NotVolume => put_line(out, b"not a volume", volume.as_bytes()),
+        ScanEnding::BadHeader => out.put(b"bad log header\n"),
+        ScanEnding::BadRun { tid, place } => {
+            let mut buffer = Buffer::new();
+            let tid = buffer.format(*tid).as_bytes();
+            put_number(out, b"bad log", tid, u64::from(*place))
+        }
     }
 }
 
-/// Says how a command ended: its one line, or what it lists, and its status.
-pub(crate) fn report<K: Sink>(alloc: Global, out: &mut K, ending: Ending, name: &str) -> u8
-    ensures says { Says name.now ending (K.faults out.old) (K.faults out.new) (K.held out.old) (K.held out.new) result }
-    ensures later { K.faults out.old ≤ K.faults out.new }
+fn put_mkfs<K: Sink>(out: &mut K, ended: &MkfsEnding) -> Result<(), SinkFault>
+    ensures { Puts (mkfs_line ended.now) result (K.told out.old) (K.told out.new) }
 {
-    let status = ending.status();
-    match ending.text(alloc, name) {
-        Ok(text) => put_text(out, text.as_bytes(), status),
-        Err(_) => put_text(out, b"no memory\n", NO_MEMORY),
+    match ended {
+        MkfsEnding::Made(text) => out.put(text.as_bytes()),
+        MkfsEnding::Refused(BadNumber { word, number }) => {
+            put_number(out, b"geometry", word.name().as_bytes(), *number)
+        }
+    }
+}
+
+// Puts the text of an ending. It takes no memory, so that each ending has its text.
+fn put_ending<K: Sink>(out: &mut K, ending: &Ending<'_>) -> Result<(), SinkFault>
+    ensures { Puts (text_of ending.now) result (K.told out.old) (K.told out.new) }
+{
+    match ending {
+        Ending::Usage => out.put(b"usage\n"),
+        Ending::Missing(name) => put_line(out, b"missing", name.as_bytes()),
+        Ending::DiskFault(name) => put_line(out, b"disk fault", name.as_bytes()),
+        Ending::NoMemory => out.put(b"no memory\n"),
+        Ending::Scan { volume, ended } => put_scan(out, volume, ended),
+        Ending::Mkfs(ended) => put_mkfs(out, ended),
+    }
+}
+
+// The status where a put failed: success is told as a fault of the reply.
+fn status_if_cut(status: u8) -> u8
+    ensures { result ≡ status_if_cut status }
+{
+    if status == 0 { REPLY_FAULT } else { status }
+}
+
+/// Says how a command ended: puts its text, and answers its status; that of a failed put in place of 0.
+pub(crate) fn report<K: Sink>(out: &mut K, ending: &Ending<'_>) -> u8
+    ensures { Says ending.now result (K.told out.old) (K.told out.new) }
+{
+    match put_ending(out, ending) {
+        Ok(()) => ending.status(),
+        Err(_) => status_if_cut(ending.status()),
     }
 }

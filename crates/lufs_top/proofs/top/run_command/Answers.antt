@@ -1,0 +1,13 @@
+use Rattle.std.proofs.Common.{Some, sym, subst}
+use Rattle.lufs_top.specs.declared.words.Command.{Command as SpokenCommand}
+use Rattle.lufs_top.specs.Words.{command_meant}
+use Rattle.lufs_top.specs.Run.{Ran}
+use Rattle.lufs_top.proofs.top.run_command.Goals as goal
+
+pub returns-in-Scan : goal.returns-in-Scan
+returns-in-Scan g c =
+    subst (λ (command : SpokenCommand). Ran (Some (command_meant command)) c.scan_named.result (g.H.Host.outside c.args.host.now) (g.H.Host.outside c.scan_named.new.host)) (sym c.in-Scan.is) c.scan_named.ensures
+
+pub returns-in-Mkfs : goal.returns-in-Mkfs
+returns-in-Mkfs g c =
+    subst (λ (command : SpokenCommand). Ran (Some (command_meant command)) c.mkfs_named.result (g.H.Host.outside c.args.host.now) (g.H.Host.outside c.mkfs_named.new.host)) (sym c.in-Mkfs.is) c.mkfs_named.ensures

@@ -1,0 +1,3 @@
+pub mod Mkfs
+pub mod MkfsCrash
+pub mod NewVolume
