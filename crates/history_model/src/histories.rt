@@ -1,0 +1,35 @@
+// The laws of histories: what more entries change of them, and moments one after the other.
+ghost use Rattle.std.specs.Prelude.{◌≡◌, ◌≤◌, ◌↔◌, ℕ, ◌+◌, ◌∷◌, ◌++◌, [], List, length, false};
+ghost use Rattle.lufs_base.specs.declared.geometry.Geometry.{Geometry};
+ghost use Rattle.tree_types.specs.declared.history.Entry.{Entry};
+ghost use Rattle.volume_model.specs.Crash.{Record};
+ghost use Rattle.volume_model.specs.Sound.{Tree};
+ghost use Rattle.history_model.specs.Histories.{History, replayed_on, replay_of, after_call, Legal, IsRightAfter};
+ghost use Rattle.history_model.specs.Touched.{Settled};
+ghost use Rattle.history_model.specs.CrashSafety.{IsCrashSafeAt, CrashSafe};
+
+/// Entries that are added leave the tree after the first k entries, and go on from the tree after all of them. A history is
+/// legal with one more exactly where it is legal without it and that one is right after it.
+pub fn histories_grow()
+    ensures replay { (g : Geometry) (moment : ℕ) (opening : Tree) (entries more : List Entry) (k : ℕ) → k ≤ length entries
+        → replay_of g moment opening (entries ++ more) k ≡ replay_of g moment opening entries k }
+    ensures whole { (g : Geometry) (moment : ℕ) (opening : Tree) (entries : List Entry)
+        → replay_of g moment opening entries (length entries) ≡ replayed_on g moment opening entries }
+    ensures last { (g : Geometry) (moment : ℕ) (opening : Tree) (entries : List Entry) (e : Entry)
+        → replayed_on g moment opening (entries ++ e ∷ []) ≡ after_call g moment (replayed_on g moment opening entries) e e.call }
+    ensures legal { (g : Geometry) (moment : ℕ) (opening : Tree) (entries : List Entry) (e : Entry)
+        → Legal g moment opening (entries ++ e ∷ []) ↔ (Legal g moment opening entries × IsRightAfter g moment opening entries e) }
+{}
+
+/// What is crash safe from one moment to another and on from the next one is so from the first to the last.
+pub fn moments_join()
+    ensures one { (g : Geometry) (moment : ℕ) (opening : Tree) (h : History) (r : Record) (n : ℕ)
+        → IsCrashSafeAt g moment opening h r n ↔ CrashSafe g moment opening h r n n }
+    ensures join { (g : Geometry) (moment : ℕ) (opening : Tree) (h : History) (r : Record) (first middle next last : ℕ) → next ≤ middle + 1
+        → CrashSafe g moment opening h r first middle → CrashSafe g moment opening h r next last → CrashSafe g moment opening h r first last }
+{}
+
+/// In a session that did nothing yet, each byte is settled by the opening.
+pub fn opening_settles()
+    ensures { (g : Geometry) (moment : ℕ) (opening : Tree) (n ino p : ℕ) → Settled g moment opening [] n ino p }
+{}

@@ -1,0 +1,98 @@
+// The laws of calls on trees.
+ghost use Rattle.std.specs.Prelude.{◌≡◌, ◌≢◌, ◌<◌, ◌==◌, ◌↔◌, ℕ, ◌+◌, Some, List, Bool, true, false, if◌then◌else◌, is_some, Result, Ok};
+ghost use Rattle.lufs_base.specs.declared.geometry.Geometry.{Geometry};
+ghost use Rattle.tree_types.specs.declared.credentials.Cred.{Cred};
+ghost use Rattle.tree_types.specs.declared.call.Call.{Call};
+ghost use Rattle.tree_types.specs.declared.call.Call.TheVariants as call;
+ghost use Rattle.tree_types.specs.declared.reply.Refusal.{Refusal};
+ghost use Rattle.tree_types.specs.declared.reply.Reply.TheVariants as reply;
+ghost use Rattle.volume_model.specs.Sound.{Tree, DirectoryNode, Directory, shape_of, used_in_tree, claimed_in_tree};
+ghost use Rattle.history_model.specs.Places.{is_directory_in, links_in, lookup};
+ghost use Rattle.history_model.specs.Edits.{Enter, edited};
+ghost use Rattle.volume_model.specs.Format.{inodes_of};
+ghost use Rattle.history_model.specs.Walk.{WalkEnd, parts_of, walk_of, most_followed, root};
+ghost use Rattle.history_model.specs.Walks.{Walks};
+ghost use Rattle.history_model.specs.Replies.{reply_of, tree_after, wanted_of, freed_of, freed_blocks_of, refusal_of, tells_bytes};
+ghost use Rattle.history_model.specs.Wants.{nothing, blocks_in};
+ghost use Rattle.history_model.specs.Ends.{One, ends_of};
+ghost use Rattle.history_model.specs.Effects.{made_node};
+ghost use Rattle.history_model.specs.Histories.{makes_inode, IsUsable};
+ghost use Rattle.history_model.specs.Made.{HasMade};
+ghost use Rattle.history_model.specs.Used.{IsOfUsed, HasRightFiles};
+ghost use Rattle.history_model.specs.Right.{IsRightWithin, changes_names, names_no_directory};
+
+/// A call that is refused changes nothing and claims nothing.
+pub fn refused_changes_nothing()
+    ensures tree { (g : Geometry) (tree : Tree) (cred : Cred) (ino moment : ℕ) (call : Call) (why : Refusal)
+        → reply_of g tree cred call ≡ reply.Refused why → tree_after g tree cred ino moment call ≡ tree }
+    ensures wanted { (g : Geometry) (tree : Tree) (cred : Cred) (call : Call) (why : Refusal)
+        → reply_of g tree cred call ≡ reply.Refused why → wanted_of g tree cred call ≡ nothing }
+{}
+
+/// The walk of a path is the one that the rules of `Walks` allow, and it ends in a directory, with what that names.
+pub fn walks()
+    ensures rules { (tree : Tree) (cred : Cred) (path : List ℕ) (follow : Bool) (end : Result WalkEnd Refusal)
+        → (walk_of tree cred path follow ≡ end) ↔ Walks tree cred follow most_followed root (parts_of path) end }
+    ensures directory { (tree : Tree) (cred : Cred) (path : List ℕ) (follow : Bool) (p : WalkEnd)
+        → walk_of tree cred path follow ≡ Ok p → (is_directory_in tree p.dir ≡ true) × (lookup tree p.dir p.name ≡ p.found) }
+{}
+
+/// The shape of a tree is enough to know whether a call is refused and why, what it claims, and its reply, unless that tells
+/// bytes of a file.
+pub fn shapes_are_enough()
+    ensures refusals { (g : Geometry) (tree : Tree) (cred : Cred) (call : Call)
+        → refusal_of (reply_of g (shape_of tree) cred call) ≡ refusal_of (reply_of g tree cred call) }
+    ensures replies { (g : Geometry) (tree : Tree) (cred : Cred) (call : Call)
+        → tells_bytes call ≡ false → reply_of g (shape_of tree) cred call ≡ reply_of g tree cred call }
+    ensures wanted { (g : Geometry) (tree : Tree) (cred : Cred) (call : Call) → wanted_of g (shape_of tree) cred call ≡ wanted_of g tree cred call }
+{}
+
+/// A `create`, `mkdir` or `symlink` that is answered ok makes one inode, with the name that its path ends in, and changes no
+/// other name of the directory and no other inode.
+pub fn inodes_made()
+    ensures { (g : Geometry) (tree : Tree) (cred : Cred) (ino moment : ℕ) (call : Call)
+        → makes_inode call ≡ true → IsUsable g tree ino → reply_of g tree cred call ≡ reply.Done
+        → (p : WalkEnd) × (ends_of tree cred call ≡ Ok (One p)) × HasMade tree (tree_after g tree cred ino moment call) p ino (made_node cred ino moment call p) }
+{}
+
+/// A call takes the inode that it wants and frees the one that goes with its last name. It claims the blocks that it wants,
+/// and frees those of that inode, or those that a file loses.
+pub fn inodes_and_blocks_counted()
+    ensures inodes { (g : Geometry) (tree : Tree) (cred : Cred) (ino moment : ℕ) (call : Call)
+        → IsOfUsed g tree → (makes_inode call ≡ true → IsUsable g tree ino)
+        → used_in_tree g (tree_after g tree cred ino moment call) + (if is_some (freed_of g tree cred call) then 1 else 0)
+        ≡ used_in_tree g tree + (if (wanted_of g tree cred call).inode then 1 else 0) }
+    ensures blocks { (g : Geometry) (tree : Tree) (cred : Cred) (ino moment : ℕ) (call : Call)
+        → IsOfUsed g tree → HasRightFiles tree → (makes_inode call ≡ true → IsUsable g tree ino)
+        → claimed_in_tree g (tree_after g tree cred ino moment call) + freed_blocks_of g tree cred call
+        ≡ claimed_in_tree g tree + blocks_in (wanted_of g tree cred call) }
+{}
+
+/// A name that is entered into a directory is one link of its inode, and no link of any other.
+pub fn links_entered()
+    ensures { (g : Geometry) (tree : Tree) (dir : ℕ) (name : List ℕ) (i j : ℕ) (d : DirectoryNode)
+        → j ≢ 0 → tree dir ≡ Some (Directory d) → dir < inodes_of g
+        → links_in g (edited (Enter dir name i) tree) j ≡ links_in g tree j + (if i == j then 1 else 0) }
+{}
+
+/// Files that have an index for each block below their size stay so under every call.
+pub fn files_stay_right()
+    ensures { (g : Geometry) (tree : Tree) (cred : Cred) (ino moment : ℕ) (call : Call)
+        → HasRightFiles tree → HasRightFiles (tree_after g tree cred ino moment call) }
+{}
+
+/// A right tree stays right under every call but `rename`: those that change no name, those that name an inode that is no
+/// directory, `remove`, `rmdir` and `mkdir`.
+pub fn trees_stay_right()
+    ensures same_names { (g : Geometry) (tree : Tree) (cred : Cred) (ino moment : ℕ) (call : Call)
+        → changes_names call ≡ false → IsRightWithin g tree → IsRightWithin g (tree_after g tree cred ino moment call) }
+    ensures name_given { (g : Geometry) (tree : Tree) (cred : Cred) (ino moment : ℕ) (call : Call)
+        → names_no_directory call ≡ true → (makes_inode call ≡ true → IsUsable g tree ino) → IsRightWithin g tree
+        → IsRightWithin g (tree_after g tree cred ino moment call) }
+    ensures name_removed { (g : Geometry) (tree : Tree) (cred : Cred) (ino moment : ℕ) (path : List ℕ)
+        → IsRightWithin g tree → IsRightWithin g (tree_after g tree cred ino moment (call.Remove path)) }
+    ensures directory_removed { (g : Geometry) (tree : Tree) (cred : Cred) (ino moment : ℕ) (path : List ℕ)
+        → IsRightWithin g tree → IsRightWithin g (tree_after g tree cred ino moment (call.Rmdir path)) }
+    ensures directory_made { (g : Geometry) (tree : Tree) (cred : Cred) (ino moment : ℕ) (path : List ℕ) (mode : ℕ)
+        → IsUsable g tree ino → IsRightWithin g tree → IsRightWithin g (tree_after g tree cred ino moment (call.Mkdir path mode)) }
+{}
