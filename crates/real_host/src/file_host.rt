@@ -1,90 +1,116 @@
-ghost use Rattle.std.specs.Prelude.{None, true, false};
+ghost use Rattle.std.specs.Prelude.{None};
 
 use crate::file_disk::FileDisk;
 use crate::file_sink::FileSink;
 use host_io::{Host, HostError};
-use std::fs::{File, OpenOptions};
-use std::io;
+use std::fs::{File, FileType, OpenFile, OpenOptions};
+use std::os::unix::fs::{FileExt, FileTypeExt};
+use std::path::Path;
+use std::rt::{Clock, Files};
 use std::time::{SystemTime, UNIX_EPOCH};
+use std::{fs, io};
 
-/// The files of the system by their paths, standard output under the name `-`, and the clock. It
+/// The name of standard output.
+const STANDARD_OUTPUT: &str = "-";
+
+/// The files of a system by their paths, its standard output under the name `-`, and its clock. It
 /// tells nothing of what they hold. Its counts are those of its `Failed` and of its `Missing`.
 #[derive(Drop)]
-pub struct FileHost {
-    rt: HostRuntime,
+pub struct FileHost<R> {
+    rt: R,
     faults: u64,
     absent: u64,
 }
 
-impl FileHost {
-    pub fn new(rt: HostRuntime) -> Self {
+impl<R: Drop> FileHost<R> {
+    pub fn new(rt: R) -> Self {
         FileHost {
             rt,
             faults: 0,
             absent: 0,
         }
     }
+}
 
-    // A volume that may not be written can be read.
-    fn open(&self, name: &str) -> io::Result<FileDisk> {
-        match OpenOptions::new()
-            .read(true)
-            .write(true)
-            .open(&self.rt, name)
-        {
-            Ok(file) => FileDisk::new(file),
-            Err(error) if error.kind() == io::ErrorKind::NotFound => Err(error),
-            Err(_) => FileDisk::new(File::open(&self.rt, name)?),
-        }
+// Nothing else is read and written by sectors at any place. To open a fifo could wait forever, and to
+// open another device could change it.
+fn may_be_volume(kind: FileType) -> bool {
+    kind.is_file() || kind.is_block_device()
+}
+
+// A volume that may not be written can be read.
+fn open_volume<R: Files>(rt: &R, name: &str) -> io::Result<FileDisk<R::File>> {
+    if !may_be_volume(fs::metadata(rt, name)?.file_type()) {
+        return Err(io::Error::from(io::ErrorKind::InvalidInput));
+    }
+    match OpenOptions::new().read(true).write(true).open(rt, name) {
+        Ok(file) => FileDisk::new(file),
+        Err(_) => FileDisk::new(File::open(rt, name)?),
     }
 }
 
-impl FileHost {
-    // A file that is already there is used as it is.
-    fn open_or_make(&self, name: &str, sectors: u64) -> io::Result<FileDisk> {
-        match self.open(name) {
-            Err(error) if error.kind() == io::ErrorKind::NotFound => {
-                let Some(bytes) = sectors.checked_mul(512) else {
-                    return Err(io::Error::from(io::ErrorKind::InvalidInput));
-                };
-                let file = OpenOptions::new()
-                    .read(true)
-                    .write(true)
-                    .create_new(true)
-                    .open(&self.rt, name)?;
-                file.set_len(bytes)?;
-                FileDisk::new(file)
-            }
-            opened => opened,
-        }
+// A crash keeps a file only once its directory is synced.
+fn sync_directory_of<R: Files>(rt: &R, name: &str) -> io::Result<()> {
+    let directory = match Path::new(name).parent() {
+        Some(parent) if !parent.as_str().is_empty() => parent.as_str(),
+        _ => ".",
+    };
+    File::open(rt, directory)?.sync_all()
+}
+
+// A new file, which is on the disk with its name before this answers `Ok`.
+fn lay_out<F: OpenFile, R: Files>(rt: &R, name: &str, file: &F, bytes: u64) -> io::Result<()> {
+    file.set_len(bytes)?;
+    file.sync_all()?;
+    sync_directory_of(rt, name)
+}
+
+// What can't be made whole is removed, since the next run would use it as it is.
+fn make_volume<R: Files>(rt: &R, name: &str, sectors: u64) -> io::Result<FileDisk<R::File>> {
+    let Some(bytes) = sectors.checked_mul(512) else {
+        return Err(io::Error::from(io::ErrorKind::InvalidInput));
+    };
+    let file = File::create_new(rt, name)?;
+    if let Err(error) = lay_out(rt, name, &file, bytes) {
+        let _ = fs::remove_file(rt, name);
+        return Err(error);
+    }
+    FileDisk::new(file)
+}
+
+// A file that is already there is used as it is.
+fn open_or_make<R: Files>(rt: &R, name: &str, sectors: u64) -> io::Result<FileDisk<R::File>> {
+    match open_volume(rt, name) {
+        Err(error) if error.kind() == io::ErrorKind::NotFound => make_volume(rt, name, sectors),
+        opened => opened,
     }
 }
 
-impl Host for FileHost {
-    type D = FileDisk;
+// Where standard output is closed, the next file that is opened would stand in its place and get what
+// is printed. So an empty write finds out first.
+fn open_sink<R: Files + Print + Drop>(rt: R, name: &str) -> io::Result<FileSink<R, R::File>> {
+    if name == STANDARD_OUTPUT {
+        rt.write_some(&[])?;
+        return Ok(FileSink::standard(rt));
+    }
+    Ok(FileSink::file(File::create(&rt, name)?))
+}
 
-    type K = FileSink;
+impl<R: Files + Clock + Print + Copy + Drop> Host for FileHost<R>
+where
+    R::File: FileExt,
+{
+    type D = FileDisk<R::File>;
 
-    ghost faults = { λ h. h.faults };
+    type K = FileSink<R, R::File>;
 
-    ghost absent = { λ h. h.absent };
-
-    ghost moment = { λ _. None };
-
-    ghost asks = { λ _. None };
-
-    ghost tells = { λ _. false };
-
-    ghost disk_at = { λ _ _. None };
-
-    // Of a host that tells nothing, no name is known not to be lent.
-    ghost disk_lent = { λ _ _. true };
-
-    ghost sink_at = { λ _ _. None };
-
-    ghost sink_lent = { λ _ _. true };
-
-    ghost told = { λ _ _. (tt, tt) };
+    ghost outside = { λ h. record {
+      moment = None;
+      asks = None;
+      holds = None;
+      faults = h.faults;
+      absent = h.absent;
+    } };
 
     fn faults(&self) -> u64 {
         self.faults
@@ -104,8 +130,10 @@ impl Host for FileHost {
         }
     }
 
-    fn take_disk(&mut self, name: &str) -> Result<FileDisk, HostError> {
-        match self.open(name) {
+    /// A regular file or a block device. Everything else of that name is a failure, and so is every error
+    /// but that there is nothing of that name.
+    fn take_disk(&mut self, name: &str) -> Result<FileDisk<R::File>, HostError> {
+        match open_volume(&self.rt, name) {
             Ok(disk) => Ok(disk),
             Err(error) if error.kind() == io::ErrorKind::NotFound => {
                 self.absent = self.absent.saturating_add(1);
@@ -118,8 +146,8 @@ impl Host for FileHost {
         }
     }
 
-    fn make_disk(&mut self, name: &str, sectors: u64) -> Result<FileDisk, HostError> {
-        match self.open_or_make(name, sectors) {
+    fn make_disk(&mut self, name: &str, sectors: u64) -> Result<FileDisk<R::File>, HostError> {
+        match open_or_make(&self.rt, name, sectors) {
             Ok(disk) => Ok(disk),
             Err(_) => {
                 self.faults = self.faults.saturating_add(1);
@@ -128,16 +156,13 @@ impl Host for FileHost {
         }
     }
 
-    fn give_disk(&mut self, _name: &str, disk: FileDisk) {
+    fn give_disk(&mut self, _name: &str, disk: FileDisk<R::File>) {
         drop(disk);
     }
 
-    fn take_sink(&mut self, name: &str) -> Result<FileSink, HostError> {
-        if name == "-" {
-            return Ok(FileSink::standard(self.rt));
-        }
-        match File::create(&self.rt, name) {
-            Ok(file) => Ok(FileSink::file(file)),
+    fn take_sink(&mut self, name: &str) -> Result<FileSink<R, R::File>, HostError> {
+        match open_sink(self.rt, name) {
+            Ok(sink) => Ok(sink),
             Err(_) => {
                 self.faults = self.faults.saturating_add(1);
                 Err(HostError::Failed)
@@ -145,7 +170,7 @@ impl Host for FileHost {
         }
     }
 
-    fn give_sink(&mut self, _name: &str, sink: FileSink) {
+    fn give_sink(&mut self, _name: &str, sink: FileSink<R, R::File>) {
         drop(sink);
     }
 }

@@ -1,32 +1,31 @@
 ghost use Rattle.std.specs.Prelude.{None};
 
 use host_io::{Sink, SinkFault};
-use std::fs::File;
 use std::io;
 use std::io::Write;
 
 #[derive(Drop)]
-enum Output {
-    Standard(HostRuntime),
-    File(File),
+enum Output<R, F> {
+    Standard(R),
+    File(F),
 }
 
 /// Standard output or a file. It tells nothing of what it was given.
 #[derive(Drop)]
-pub struct FileSink {
-    output: Output,
+pub struct FileSink<R, F> {
+    output: Output<R, F>,
     faults: u64,
 }
 
-impl FileSink {
-    pub fn standard(rt: HostRuntime) -> Self {
+impl<R: Drop, F: Drop> FileSink<R, F> {
+    pub fn standard(rt: R) -> Self {
         FileSink {
             output: Output::Standard(rt),
             faults: 0,
         }
     }
 
-    pub fn file(file: File) -> Self {
+    pub fn file(file: F) -> Self {
         FileSink {
             output: Output::File(file),
             faults: 0,
@@ -34,17 +33,15 @@ impl FileSink {
     }
 }
 
-fn write(output: &mut Output, bytes: &[u8]) -> io::Result<()> {
+fn write<R: Print, F: Write>(output: &mut Output<R, F>, bytes: &[u8]) -> io::Result<()> {
     match output {
-        Output::Standard(rt) => io::writer(rt).write_all(bytes),
+        Output::Standard(rt) => rt.write_all(bytes),
         Output::File(file) => file.write_all(bytes),
     }
 }
 
-impl Sink for FileSink {
-    ghost held = { λ _. None };
-
-    ghost faults = { λ k. k.faults };
+impl<R: Print + Drop, F: Write + Drop> Sink for FileSink<R, F> {
+    ghost told = { λ k. record { held = None; faults = k.faults } };
 
     fn faults(&self) -> u64 {
         self.faults

@@ -1,0 +1,278 @@
+#!/usr/bin/env bash
+# What the built program does to real files: the statuses it exits with, what stands in place of a
+# volume, where its output goes, and the order of its system calls. No proof says any of it.
+#
+# It prints one line a check, `ok WHAT` or `FAILED WHAT`, or `skipped WHAT`, and exits with 1 if one
+# failed. It wants bash, python3 and timeout, and for the calls strace.
+#
+# Two programs on one volume at once: nothing stops them, since the program takes no lock, as a mkfs of
+# an image file mostly takes none. Their writes fall between one another. Two runs of mkfs with the same
+# numbers write the same bytes but for the moment, so what they leave is a volume; of other pairs
+# nothing is promised.
+set -u
+
+crate=$(cd "$(dirname "${BASH_SOURCE[0]}")/../crates/lufs" && pwd)
+lufs=$crate/out/lufs
+if [ ! -x "$lufs" ]; then
+    (cd "$crate" && rt run -- mkfs out/volume 1 64 32 256) >&2 || exit 1
+fi
+
+folder=$(mktemp -d)
+trap 'chmod -R u+rwx "$folder"; rm -rf "$folder"' EXIT
+cd "$folder" || exit 1
+
+failed=0
+numbers='1 64 32 256'
+made='made blocks 99 inodes 30 free 61 ring 255'
+empty=$'epoch 1 head 0 tid 1 ring 255\ncommitted 0 sectors 0'
+
+# is WHAT WANTED FOUND: one line.
+is() {
+    if [ "$2" = "$3" ]; then
+        echo "ok $1"
+    else
+        echo "FAILED $1: wanted '$2', found '$3'"
+        failed=1
+    fi
+}
+
+# ends WHAT STATUS TEXT WORD..: the program's status and all that it prints. 124 is a hang.
+ends() {
+    local what=$1 status=$2 text=$3 found
+    shift 3
+    found=$(timeout 5 "$lufs" "$@" 2>&1)
+    is "$what" "$status: $text" "$?: $found"
+}
+
+# same WHAT FILE..: the files have the same bytes.
+same() {
+    cmp -s "$2" "$3"
+    is "$1" 0 $?
+}
+
+# put FILE BYTE HEX: puts bytes at a place of a file.
+put() {
+    python3 -c 'import sys
+with open(sys.argv[1], "r+b") as f:
+    f.seek(int(sys.argv[2]))
+    f.write(bytes.fromhex(sys.argv[3]))' "$@"
+}
+
+echo '# the statuses'
+# shellcheck disable=SC2086
+ends 'mkfs of a name that is not there' 0 "$made" mkfs volume $numbers
+is 'the new file has just the volume' 405504 "$(stat -c %s volume)"
+ends 'scan of a new volume' 0 "$empty" scan volume
+cp volume first
+sleep 1
+ends 'mkfs of a file that is there' 0 "$made" mkfs volume $numbers
+moment=$(python3 -c 'print(int.from_bytes(open("volume", "rb").read()[147736:147744], "big"))')
+now=$(date +%s)
+is "the root's moment is now, in seconds" 1 $((moment <= now && moment > now - 60))
+cmp -l first volume | python3 -c 'import sys
+print(all(147736 <= int(line.split()[0]) - 1 < 147744 for line in sys.stdin))' >differ
+is 'a second mkfs changes the moment alone' True "$(cat differ)"
+ends 'no words' 1 usage
+ends 'another word' 1 usage check volume
+ends 'a word too many' 1 usage mkfs volume $numbers 1
+ends 'a seventh and an eighth word' 1 usage mkfs volume $numbers 1 2
+ends 'a number with a sign' 1 usage mkfs volume +1 64 32 256
+ends 'scan of a name that is not there' 2 'missing nothing' scan nothing
+ends 'mkfs where the directory is not there' 4 'disk fault no/volume' mkfs no/volume $numbers
+ends 'scan below a file' 4 'disk fault volume/x' scan volume/x
+: >small
+ends 'scan of an empty file' 6 'not a volume small' scan small
+ends 'mkfs of an empty file' 10 'geometry sectors 0' mkfs small $numbers
+ends 'a number out of its range' 10 'geometry bpg 65' mkfs new 1 65 32 256
+is 'then no file is made' no "$([ -e new ] && echo yes || echo no)"
+cp volume bad
+put bad 12288 00
+ends 'a bad log header' 11 'bad log header' scan bad
+cp volume bad
+# A record of type 9 in the first sector of the ring, with its trailer.
+put bad 12800 0000000000024100000000800000000941c00002
+put bad 13304 0000000100000001
+ends 'a bad log' 11 'bad log 1 0' scan bad
+put bad 12815 02
+put bad 12944 00000000000000010000000100000008
+ends 'a log with one transaction' 0 \
+    $'epoch 1 head 0 tid 1 ring 255\ntx 1 sectors 1 deltas 1 bytes 144\ncommitted 1 sectors 1' scan bad
+cp bad before
+ends 'scan of it again' 0 \
+    $'epoch 1 head 0 tid 1 ring 255\ntx 1 sectors 1 deltas 1 bytes 144\ncommitted 1 sectors 1' scan bad
+same 'scan writes nothing to the file' before bad
+
+echo '# words'
+mkdir 'a folder'
+ends 'a name with spaces' 0 "$made" mkfs 'a folder/a  volume ' $numbers
+ends 'scan of it' 0 "$empty" scan 'a folder/a  volume '
+ends 'an empty name' 2 'missing ' scan ''
+ends 'an empty number' 1 usage mkfs new '' 64 32 256
+ends 'a name that is no UTF-8' 1 usage scan $'volume\xff'
+ends 'a name of many bytes' 4 "disk fault $(printf 'n%.0s' {1..300})" scan "$(printf 'n%.0s' {1..300})"
+
+echo '# in place of a volume'
+mkdir directory
+mkfifo fifo
+python3 -c 'import socket
+socket.socket(socket.AF_UNIX).bind("socket")'
+ln -s fifo link
+for kind in directory fifo socket link /dev/null /dev/full; do
+    ends "scan of $kind" 4 "disk fault $kind" scan "$kind"
+    ends "mkfs of $kind" 4 "disk fault $kind" mkfs "$kind" $numbers
+done
+ln -s volume good
+ends 'scan of a link to a volume' 0 "$empty" scan good
+ln -s nothing dangling
+ends 'scan of a link to nothing' 2 'missing dangling' scan dangling
+ends 'mkfs of a link to nothing' 4 'disk fault dangling' mkfs dangling $numbers
+
+echo '# rights'
+cp volume locked
+if [ "$(id -u)" = 0 ]; then
+    # Root may do all by its rights, so the program runs as nobody where that can be.
+    chmod 755 "$folder"
+    chown nobody locked "a folder" 2>/dev/null
+    as=(setpriv --reuid=65534 --regid=65534 --clear-groups --inh-caps=-all --bounding-set=-all)
+    cp "$lufs" program
+    if ! "${as[@]}" ./program scan volume >/dev/null 2>&1; then
+        as=()
+    fi
+else
+    as=(env)
+    cp "$lufs" program
+fi
+if [ ${#as[@]} = 0 ]; then
+    echo 'skipped the checks of rights: this is root, and another user cannot be taken'
+else
+    chmod 444 locked
+    is 'scan of a file that may only be read' "0: $empty" "$(
+        found=$("${as[@]}" ./program scan locked)
+        echo "$?: $found"
+    )"
+    is 'mkfs of it' '4: disk fault locked' "$(
+        found=$("${as[@]}" ./program mkfs locked $numbers)
+        echo "$?: $found"
+    )"
+    same 'its bytes stay' volume locked
+    chmod 000 locked
+    is 'scan of a file without rights' '4: disk fault locked' "$(
+        found=$("${as[@]}" ./program scan locked)
+        echo "$?: $found"
+    )"
+    # A name can be made in this directory, and the directory can't be opened to be synced.
+    chmod 333 'a folder'
+    is 'mkfs where the directory cannot be synced' '4: disk fault a folder/new' "$(
+        found=$("${as[@]}" ./program mkfs 'a folder/new' $numbers)
+        echo "$?: $found"
+    )"
+    chmod 755 'a folder'
+    is 'then no file is left' no "$([ -e 'a folder/new' ] && echo yes || echo no)"
+fi
+
+echo '# a full file system, by a limit on the size of files'
+is 'mkfs of a new file' '4: disk fault full' "$(
+    trap '' XFSZ
+    ulimit -f 100
+    found=$("$lufs" mkfs full $numbers)
+    echo "$?: $found"
+)"
+is 'then no file is left' no "$([ -e full ] && echo yes || echo no)"
+truncate -s 405504 full
+is 'mkfs of a file that is there' '4: disk fault full' "$(
+    trap '' XFSZ
+    ulimit -f 100
+    found=$("$lufs" mkfs full $numbers)
+    echo "$?: $found"
+)"
+ends 'then it is no volume' 6 'not a volume full' scan full
+
+echo '# standard output'
+for command in "scan volume" "mkfs volume $numbers" "mkfs new $numbers"; do
+    timeout 5 "$lufs" $command >&-
+    is "$command with standard output closed" 5 $?
+    is 'then nothing is made' no "$([ -e new ] && echo yes || echo no)"
+    timeout 5 "$lufs" $command <&- >&- 2>&-
+    is "$command with all three closed" 5 $?
+    timeout 5 "$lufs" $command 2>/dev/null >/dev/full
+    is "$command into /dev/full" 5 $?
+    timeout 5 "$lufs" $command | true
+    is "$command into a closed pipe ends" 1 $((PIPESTATUS[0] == 5 || PIPESTATUS[0] == 0))
+    rm -f new
+done
+ends 'the volume is as good as before' 0 "$empty" scan volume
+timeout 5 "$lufs" nothing >/dev/full
+is 'usage into /dev/full' 5 $?
+python3 - "$lufs" <<'END'
+import os, subprocess, sys
+reader, writer = os.pipe()
+os.close(reader)
+done = subprocess.run([sys.argv[1], "scan", "volume"], stdout=writer)
+open("pipe", "w").write(str(done.returncode))
+END
+is 'scan into a pipe that nobody reads' 5 "$(cat pipe)"
+
+echo '# two programs at once'
+"$lufs" mkfs volume $numbers >one &
+first=$!
+"$lufs" mkfs volume $numbers >two
+second=$?
+wait $first
+is 'mkfs and mkfs both end well' '0 0' "$? $second"
+ends 'and leave a volume' 0 "$empty" scan volume
+
+echo '# the order of the system calls'
+if ! command -v strace >/dev/null || ! strace -o trace true 2>/dev/null; then
+    echo 'skipped the order of the calls: there is no strace that works here'
+    exit $failed
+fi
+# calls WORD..: what a run does from standard output on, a line a call, with places and lengths alone.
+calls() {
+    strace -o trace -e 'trace=%file,%desc' "$lufs" "$@" >/dev/null
+    sed -n '/^write(1, ""/,$p' trace | grep -v '^+++' | sed -E '
+        s/ += .*//
+        s/^statx\([^,]*, ("[^"]*"),.*/look \1/
+        s/^openat\([^,]*, ("[^"]*"), ([A-Z_|]*)\|O_NOCTTY.*/open \1 \2/
+        s/^ftruncate\(([0-9]+), ([0-9]+)\)/length \1 \2/
+        s/^p(write|read)64\(([0-9]+), ".*"(\.\.\.)?, ([0-9]+), ([0-9]+)\)/\1 \2 \4 bytes at \5/
+        s/^lseek\(([0-9]+), 0, SEEK_END\)/end \1/
+        s/^fsync\(([0-9]+)\)/sync \1/
+        s/^close\(([0-9]+)\)/close \1/
+        s/^write\(1, ".*"(\.\.\.)?, ([0-9]+)\)/print \2/'
+}
+written='end 3
+write 3 512 bytes at 8192
+sync 3
+write 3 131072 bytes at 12288
+write 3 12288 bytes at 143360
+sync 3
+write 3 512 bytes at 8192
+sync 3
+close 3
+print 42'
+rm -f new
+is 'of mkfs of a new file' "print 0
+look \"new\"
+open \"new\" O_RDWR|O_CREAT|O_EXCL
+length 3 405504
+sync 3
+open \".\" O_RDONLY
+sync 4
+close 4
+$written" "$(calls mkfs new $numbers)"
+is 'of mkfs of it again' "print 0
+look \"new\"
+open \"new\" O_RDWR
+$written" "$(calls mkfs new $numbers)"
+is 'of mkfs below a directory' 'open "directory" O_RDONLY' \
+    "$(calls mkfs directory/new $numbers | grep O_RDONLY)"
+is 'of scan' "print 0
+look \"new\"
+open \"new\" O_RDWR
+end 3
+read 3 512 bytes at 8192
+read 3 512 bytes at 12288
+read 3 130560 bytes at 12800
+close 3
+print 52" "$(calls scan new)"
+exit $failed
