@@ -2,4 +2,4 @@ pub mod BitChanges
 pub mod Counts
 pub mod BitRuns
 pub mod RecordTests
-pub mod Spelling
+pub mod Written

@@ -1,14 +1,14 @@
 -- What a group record's test says, test by test.
-use Rattle.std.proofs.Common.{◌≡◌, ℕ, ◌+◌, ◌-◌, ◌/◌, ◌<◌, ◌≤◌, Bool, true, false, not, ◌||◌, eqb, List, length, take, drop, slice_index, Some, None, inl, inr, refl, sym, ap, ◌∙◌, arith}
+use Rattle.std.proofs.Common.{◌≡◌, ℕ, ◌+◌, ◌-◌, ◌/◌, ◌<◌, ◌≤◌, Bool, true, false, not, ◌||◌, eqb, List, length, take, drop, slice_index, Some, None, inl, inr, ap, ◌∙◌, arith}
 use Rattle.std.proofs.lemmas.List.{get_or-take, get_or_past, length-take}
 use Rattle.std.proofs.lemmas.Bool.{and_parts, and_from, eqb-true, eq-eqb, cases_lt}
 use Rattle.lufs_base.specs.Fields.{AreBytes, u32_at, are_zeros}
 use Rattle.lufs_base.specs.Layout.{IsGeometry}
 use Rattle.lufs_base.specs.declared.geometry.Geometry.{Geometry}
 use Rattle.lufs_base.proofs.TestedValue.{refused, given}
-use Rattle.volume_model.specs.Format.{GroupRecord, bit_at, are_set, named_group, has_clear_rest, has_reserved, is_group, group_of, IsGroup}
+use Rattle.volume_model.specs.Format.{GroupRecord, bit_at, are_set, named_group, has_clear_rest, has_reserved, is_group, group_of}
 use Rattle.volume_model.proofs.SetBits.{each_set}
-use Rattle.cyl_groups.proofs.BitRuns.{clear_from_zeros, zeros_from_clear, set_from_each}
+use Rattle.cyl_groups.proofs.BitRuns.{clear_from_zeros}
 
 pub record Passes (g : Geometry) (n : ℕ) (bytes : List ℕ) : Type 0 where
   pub magic : u32_at bytes 0 ≡ 0x00090255
@@ -63,18 +63,6 @@ bits_of_tests g r ok rest reserved =
       reserved_blocks = λ i below. each_set r.block_bits (1 + g.ipg / 32) set.0 i (omega arith);
       reserved_inodes = λ first i below. each_set r.inode_bits 2 (second_of (eqb r.number 0) (are_set r.inode_bits 2) set.1 (eq-eqb _ _ first)) i below;
     }
-
-one_of : (a b : Bool) → (a ≡ true → b ≡ true) → (not a || b) ≡ true
-one_of true b follows = follows refl
-one_of false b follows = refl
-
-pub tests_of_bits : (g : Geometry) (n : ℕ) (r : GroupRecord) → IsGeometry g → IsGroup g n r → (has_clear_rest g r ≡ true) × (has_reserved g r ≡ true)
-tests_of_bits g n r ok is = (
-  and_from _ _ (zeros_from_clear r.inode_bits (g.ipg / 8) is.inode_bits_bytes (λ i past. is.inode_bits_end i (omega (arith, ok.ipg_step))))
-      (zeros_from_clear r.block_bits (g.bpg / 8) is.block_bits_bytes (λ i past. is.block_bits_end i (omega (arith, ok.bpg_step)))),
-  and_from _ _ (set_from_each r.block_bits (1 + g.ipg / 32) (λ i below. is.reserved_blocks i (omega arith)))
-      (one_of (eqb r.number 0) (are_set r.inode_bits 2) (λ first. set_from_each r.inode_bits 2 (is.reserved_inodes (sym is.number ∙ eqb-true _ _ first)))),
-)
 
 -- the front of bytes is bytes
 pub front_is_bytes : (n : ℕ) (bytes : List ℕ) → AreBytes bytes → AreBytes (take n bytes)

@@ -5,8 +5,9 @@ mod bits;
 mod group;
 mod record;
 
+pub use bits::{is_set, set};
 pub use group::Group;
-pub use record::{BadGroup, group_read_back, group_spelled_again, read_group, write_group};
+pub use record::{BadGroup, read_group, write_group};
 
 #[cfg(test)]
 mod tests;

@@ -1,9 +1,7 @@
-ghost use Rattle.std.specs.Prelude.{◌≡◌, ℕ, List, Some, length, option_map, IfOk};
+ghost use Rattle.std.specs.Prelude.{◌≡◌, length, option_map, IfOk};
 ghost use Rattle.std.specs.Result.{result_ok};
-ghost use Rattle.lufs_base.specs.Fields.{AreBytes};
 ghost use Rattle.lufs_base.specs.Layout.{IsGeometry};
-ghost use Rattle.lufs_base.specs.declared.geometry.Geometry.{Geometry};
-ghost use Rattle.volume_model.specs.Format.{GroupRecord, has_clear_rest, has_reserved, group_of, group_bytes, IsGroup};
+ghost use Rattle.volume_model.specs.Format.{has_clear_rest, has_reserved, group_of, group_bytes, IsGroup};
 ghost use Rattle.cyl_groups.specs.Group.{record_of, HasSizesOf};
 
 use crate::Group;
@@ -88,14 +86,3 @@ pub fn write_group(group: &Group, out: &mut [u8])
     out[32..160].copy_from_slice(&group.inode_bits);
     out[160..].copy_from_slice(&group.block_bits);
 }
-
-/// A record that was written reads as the record that was written.
-pub fn group_read_back()
-    ensures { (g : Geometry) (n : ℕ) (r : GroupRecord) → IsGeometry g → IsGroup g n r → group_of g n (group_bytes r) ≡ Some r }
-{}
-
-/// A record has no other bytes than those that are written for what it reads as.
-pub fn group_spelled_again()
-    ensures { (g : Geometry) (n : ℕ) (bytes : List ℕ) (r : GroupRecord) → AreBytes bytes → length bytes ≡ 416
-        → group_of g n bytes ≡ Some r → group_bytes r ≡ bytes }
-{}

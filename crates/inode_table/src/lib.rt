@@ -5,7 +5,7 @@
 mod numbers;
 mod record;
 
-pub use record::{BadInode, dinode_read_back, dinode_spelled_again, read_dinode, write_dinode};
+pub use record::{BadInode, read_dinode, write_dinode};
 pub use volume_model::Dinode;
 
 #[cfg(test)]

@@ -1,7 +1,5 @@
-ghost use Rattle.std.specs.Prelude.{◌≡◌, ℕ, List, ◌≤◌, Option, Some, None, length, option_map, IfOk, IfSome};
+ghost use Rattle.std.specs.Prelude.{◌≡◌, Some, length, option_map, IfOk, IfSome};
 ghost use Rattle.std.specs.Result.{result_ok};
-ghost use Rattle.lufs_base.specs.Fields.{AreBytes};
-ghost use Rattle.volume_model.specs.declared.inode.Dinode.{Dinode};
 ghost use Rattle.volume_model.specs.Format.{is_mode, has_indirect, is_dinode, dinode_of, dinode_bytes, IsDinode};
 
 use crate::numbers::{get_numbers, put_numbers};
@@ -99,15 +97,3 @@ pub fn write_dinode(d: Option<&Dinode>, out: &mut [u8])
         Some(d) => put_dinode(d, out),
     }
 }
-
-/// A record that was written reads as the inode that was written, or as free.
-pub fn dinode_read_back()
-    ensures inode { (version : ℕ) (d : Dinode) → IsDinode version d → dinode_of version (dinode_bytes (Some d)) ≡ Some (Some d) }
-    ensures free { (version : ℕ) → dinode_of version (dinode_bytes None) ≡ Some None }
-{}
-
-/// A record has no other bytes than those that are written for what it reads as.
-pub fn dinode_spelled_again()
-    ensures { (version : ℕ) (bytes : List ℕ) (d : Option Dinode) → AreBytes bytes → length bytes ≡ 128
-        → dinode_of version bytes ≡ Some d → dinode_bytes d ≡ bytes }
-{}

@@ -12,8 +12,8 @@ use Rattle.volume_model.specs.Format.{Image, block, inodes_of, group_of, group_b
 use Rattle.volume_model.specs.Sound.{Single, UsedInode, Unused, InUse, Reading, group_at, state_of, state_at, block_numbered, reading_of}
 use Rattle.volume_model.specs.MkfsImage.{root_block, made_group, made_root, block_with, made_in, IsMkfsImage}
 use Rattle.volume_laws.proofs.Members.{All_range, map_same}
-use Rattle.cyl_groups.proofs.Spelling.{group_back}
-use Rattle.inode_table.proofs.Spelling.{inode_back, free_back}
+use Rattle.volume_laws.proofs.GroupRecords.{group_back}
+use Rattle.volume_laws.proofs.InodeRecords.{inode_back, free_back}
 use Rattle.new_volume.proofs.Groups.{groups_rise, first_group}
 use Rattle.new_volume.proofs.BlockSectors.{zeros_in_zeros}
 use Rattle.new_volume.proofs.RootBlock.{root_is_some, root_inside, root_in_body}

@@ -45,7 +45,7 @@ only_one {X} p (z ∷ xs) x y few at_x at_y px py =
     ]
 
 -- what no claim on the block goes past
-greatest_below : (f : Claim → ℕ) (claims : List Claim) (b m : ℕ) → ((c : Claim) → Contains claims c → c.block ≡ b → f c ≤ m) → greatest_on f claims b ≤ m
+pub greatest_below : (f : Claim → ℕ) (claims : List Claim) (b m : ℕ) → ((c : Claim) → Contains claims c → c.block ≡ b → f c ≤ m) → greatest_on f claims b ≤ m
 greatest_below f [] b m each = omega arith
 greatest_below f (c ∷ claims) b m each =
     let rest : greatest_on f claims b ≤ m = greatest_below f claims b m (λ d here same. each d (Contains_behind c claims d here) same) in
@@ -63,11 +63,14 @@ no_records (GroupBlock n) body = absurd (both_ways false refl body)
 no_records (Inodes n) body = absurd (both_ways false refl body)
 no_records (Body n) body = refl
 
-max-zero : (a b c : ℕ) → a ≡ 0 → b ≤ c → c ≤ b → max a b ≡ c
+pub no_records_of_body : (g : Geometry) (b : ℕ) → is_body g b ≡ true → record_length (region_of g b) ≡ 0
+no_records_of_body g b body = no_records (region_of g b) (and_parts (nat_lt b (blocks_of g)) (is_body_region (region_of g b)) body).1
+
+pub max-zero : (a b c : ℕ) → a ≡ 0 → b ≤ c → c ≤ b → max a b ≡ c
 max-zero a b c none up down = ap (λ (n : ℕ). max n b) none ∙ (let same : max 0 b ≡ c = omega (arith, up, down) in same)
 
 module _ (g : Geometry) (r : Reading) (laid : IsLaid g r) where
-  body_of_claim : (claim : Claim) → Contains (claims_of r) claim → is_body g claim.block ≡ true
+  pub body_of_claim : (claim : Claim) → Contains (claims_of r) claim → is_body g claim.block ≡ true
   body_of_claim claim here = All-contains (λ c. is_body g c.block ≡ true) (claims_of r) claim laid.bodies here
 
   -- a block has one claim

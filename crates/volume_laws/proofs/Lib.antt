@@ -17,3 +17,17 @@ pub mod TreeClaims
 pub mod BodyBlocks
 pub mod FreeBits
 pub mod FreeInodes
+pub mod Rows
+pub mod BitsOfRecords
+pub mod GroupRecords
+pub mod InodeRecords
+pub mod ListParts
+pub mod RecordPlaces
+pub mod OneEntry
+pub mod RecordChanges
+pub mod LessAgreement
+pub mod LaidBytes
+pub mod BodyChanges
+pub mod ChunkChange
+pub mod NumberChange
+pub mod UnclaimedBlocks

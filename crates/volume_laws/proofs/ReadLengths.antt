@@ -21,6 +21,10 @@ pub same_part : (at k n : ℕ) (x y : List ℕ) → take n x ≡ take n y → at
 same_part at k n x y same inside =
     sym (drop-take at k x) ∙ ap (drop at) (same_front (at + k) n x y same inside) ∙ drop-take at k y
 
+-- a part inside the front
+pub part_of_front : (at k n : ℕ) (x : List ℕ) → at + k ≤ n → take k (drop at (take n x)) ≡ take k (drop at x)
+part_of_front at k n x inside = sym (drop-take at k (take n x)) ∙ ap (drop at) (take-take (at + k) n x inside) ∙ drop-take at k x
+
 -- the greatest length is no less than that of each claim on the block
 pub among_greatest : (f : Claim → ℕ) (claims : List Claim) (claim : Claim) → Contains claims claim → f claim ≤ greatest_on f claims claim.block
 among_greatest f [] claim here = absurd (omega (arith, here.1))

@@ -21,7 +21,7 @@ direct_of false true n d is = cc
 direct_of false false n d is = cc
 
 -- an inode in use has twelve direct blocks
-direct_size : (version : ℕ) (bytes : List ℕ) (d : Dinode) → dinode_of version bytes ≡ Some (Some d) → length d.direct ≡ 12
+pub direct_size : (version : ℕ) (bytes : List ℕ) (d : Dinode) → dinode_of version bytes ≡ Some (Some d) → length d.direct ≡ 12
 unfolding dinode_of numbers_in
 direct_size version bytes d is =
     sym (ap (λ (e : Dinode). length e.direct) (direct_of (are_zeros bytes) (is_dinode version bytes) (named_dinode bytes) d is))

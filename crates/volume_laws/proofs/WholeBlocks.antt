@@ -8,7 +8,7 @@ use Rattle.lufs_base.specs.declared.geometry.Geometry.{Geometry}
 use Rattle.volume_model.specs.Format.{Image, block, IsWhole}
 
 -- a part of bytes is bytes
-part_is_bytes : (n at : ℕ) (bytes : List ℕ) → AreBytes bytes → AreBytes (take n (drop at bytes))
+pub part_is_bytes : (n at : ℕ) (bytes : List ℕ) → AreBytes bytes → AreBytes (take n (drop at bytes))
 part_is_bytes n at bytes are i = elim (cases_lt i n) [
   | inl inside ↦
       let same : slice_index (take n (drop at bytes)) i ≡ slice_index bytes (at + i) = get_or-take n (drop at bytes) i 0 inside ∙ get_or-drop at bytes i 0 in

@@ -3,7 +3,7 @@ use Rattle.std.proofs.lemmas.List.{length-take-le, length-drop}
 use borrow.Rule.Slice.PartMut.{put_mid}
 use Rattle.lufs_base.specs.Fields.{field_bytes, put_at}
 use Rattle.cyl_groups.specs.Group.{record_of}
-use Rattle.cyl_groups.proofs.Spelling.{part_put, written}
+use Rattle.cyl_groups.proofs.Written.{part_put, written}
 use Rattle.cyl_groups.proofs.record.write_group.Goals as goal
 
 pub returns : goal.returns

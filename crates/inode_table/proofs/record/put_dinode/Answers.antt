@@ -1,7 +1,7 @@
 use Rattle.std.proofs.Common.{◌≡◌, ℕ, List, replicate, ap, ◌∙◌, rules, arith}
 use Rattle.lufs_base.specs.Fields.{field_bytes, put_at}
 use Rattle.volume_model.specs.Format.{numbers_bytes}
-use Rattle.inode_table.proofs.Spelling.{written}
+use Rattle.inode_table.proofs.Written.{written}
 use Rattle.inode_table.proofs.record.put_dinode.Goals as goal
 
 pub returns : goal.returns

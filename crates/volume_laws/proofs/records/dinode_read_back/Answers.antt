@@ -1,5 +1,5 @@
-use Rattle.inode_table.proofs.Spelling.{inode_back, free_back}
-use Rattle.inode_table.proofs.record.dinode_read_back.Goals as goal
+use Rattle.volume_laws.proofs.InodeRecords.{inode_back, free_back}
+use Rattle.volume_laws.proofs.records.dinode_read_back.Goals as goal
 
 pub returns-clause-inode : goal.returns-clause-inode
 returns-clause-inode c = inode_back

@@ -1,16 +1,15 @@
 -- An inode and its record determine each other.
-use Rattle.std.proofs.Common.{◌≡◌, ◌==◌, ℕ, ◌+◌, ◌*◌, ◌<◌, ◌≤◌, Bool, true, false, cond, ◌⊎◌, inl, inr, List, ◌++◌, length, take, drop, replicate, slice_index, Option, Some, None, refl, ap, sym, ◌∙◌, arith, IsTrue}
-use Rattle.std.proofs.lemmas.List.{append_assoc, drop-drop, drop_at, length-append, length-drop, length-take-le, take-append-drop}
+use Rattle.std.proofs.Common.{◌≡◌, ◌==◌, ℕ, ◌<◌, ◌≤◌, Bool, true, false, cond, ◌⊎◌, inl, inr, List, ◌++◌, length, take, drop, replicate, slice_index, Option, Some, None, refl, ap, sym, ◌∙◌, arith, IsTrue}
+use Rattle.std.proofs.lemmas.List.{drop-drop, drop_at, length-drop, length-take-le, take-append-drop}
 use Rattle.std.proofs.lemmas.List.Folds.{list_all_at}
 use Rattle.std.proofs.lemmas.Bool.{and_parts, and_from, cond-true, cond-false}
 use Rattle.std.proofs.lemmas.Bool.Decides.{nat_tests}
-use Rattle.lufs_base.specs.Fields.{AreBytes, number_in, u16_at, u32_at, u64_at, field_bytes, put_at}
+use Rattle.lufs_base.specs.Fields.{AreBytes, number_in, u16_at, u32_at, u64_at, field_bytes, are_zeros}
 use Rattle.lufs_base.proofs.Spelling.{read_back_of}
-use Rattle.lufs_base.specs.Fields.{are_zeros}
 use Rattle.volume_model.specs.declared.inode.Dinode.{Dinode}
 use Rattle.volume_model.specs.Format.{is_mode, numbers_in, numbers_bytes, named_dinode, has_indirect, is_dinode, dinode_of, dinode_bytes, IsDinode}
-use Rattle.volume_model.proofs.Pieces.{rest_is_bytes, field_again, zeros_again, length-put_at, pieces}
-use Rattle.inode_table.proofs.Rows.{number_of_row, length-numbers_bytes, row_back, row_again}
+use Rattle.volume_model.proofs.Pieces.{rest_is_bytes, field_again, zeros_again}
+use Rattle.volume_laws.proofs.Rows.{length-row, row_back, row_again}
 
 mode_bounds : (mode : ℕ) → IsTrue (is_mode mode) → (0x4000 ≤ mode) × (mode < 0x10000)
 mode_bounds mode is = grind (arith, nat_tests)
@@ -49,20 +48,15 @@ record Reads (bytes : List ℕ) (d : Dinode) : Type 0 where
   gap : are_zeros (take 4 (drop 12 bytes)) ≡ true
   end : are_zeros (drop 96 bytes) ≡ true
 
--- the second or the third indirect block
-indirect_at : (i at : ℕ) (bytes : List ℕ) (d : Dinode) → Reads bytes d → i < 3 → at ≡ 80 + 4 * i → u32_at bytes at ≡ slice_index d.indirect i
-indirect_at i at bytes d reads below place =
-    ap (λ (k : ℕ). u32_at bytes k) place ∙ ap (number_in 4) (sym (drop-drop (4 * i) 80 bytes)) ∙ sym (number_of_row 3 i (drop 80 bytes) below)
-    ∙ ap (λ (l : List ℕ). slice_index l i) reads.indirect
-
 -- the value of a record, from what its bytes read as
 used : (version : ℕ) (bytes : List ℕ) (d : Dinode) → IsDinode version d → Reads bytes d → are_zeros bytes ≡ false
     → dinode_of version bytes ≡ Some (Some d)
-unfolding dinode_of
+unfolding dinode_of numbers_in
 used version bytes d is reads some =
     let mode : is_mode (u16_at bytes 0) ≡ true = ap is_mode reads.mode ∙ is.mode in
-    let second = indirect_at 1 84 bytes d reads (omega arith) refl in
-    let third = indirect_at 2 88 bytes d reads (omega arith) refl in
+    let second : u32_at bytes 84 ≡ slice_index d.indirect 1 = ap (number_in 4) (sym (drop-drop 4 80 bytes)) ∙ ap (λ (l : List ℕ). slice_index l 1) reads.indirect in
+    let third : u32_at bytes 88 ≡ slice_index d.indirect 2 =
+    ap (number_in 4) (sym (drop-drop 4 84 bytes) ∙ ap (drop 4) (sym (drop-drop 4 80 bytes))) ∙ ap (λ (l : List ℕ). slice_index l 2) reads.indirect in
     let indirect : has_indirect version (u32_at bytes 84) (u32_at bytes 88) ≡ true =
     ap (λ (n : ℕ). has_indirect version n (u32_at bytes 88)) second ∙ ap (has_indirect version (slice_index d.indirect 1)) third ∙ is.indirect_in_version in
     let test : is_dinode version bytes ≡ true = and_from _ _ (and_from _ _ (and_from _ _ mode reads.gap) reads.end) indirect in
@@ -84,9 +78,9 @@ inode_back version d is =
     let r2 : List ℕ = field_bytes 2 d.links ++ r4 in
     let r0 : List ℕ = field_bytes 2 d.mode ++ r2 in
     let bounds = mode_bounds d.mode is.mode in
-    let at80 : drop 80 r0 ≡ r80 = drop_at (numbers_bytes d.direct) r80 48 (omega (arith, length-numbers_bytes d.direct, is.direct_size)) in
+    let at80 : drop 80 r0 ≡ r80 = drop_at (numbers_bytes d.direct) r80 48 (omega (arith, length-row d.direct, is.direct_size)) in
     let at92 : drop 92 r0 ≡ r92 =
-    sym (drop-drop 12 80 r0) ∙ ap (drop 12) at80 ∙ drop_at (numbers_bytes d.indirect) r92 12 (omega (arith, length-numbers_bytes d.indirect, is.indirect_size)) in
+    sym (drop-drop 12 80 r0) ∙ ap (drop 12) at80 ∙ drop_at (numbers_bytes d.indirect) r92 12 (omega (arith, length-row d.indirect, is.indirect_size)) in
     let at96 : drop 96 r0 ≡ replicate 32 0 = sym (drop-drop 4 92 r0) ∙ ap (drop 4) at92 in
     used version r0 d is record {
       mode = read_back_of 2 d.mode r2 bounds.1;
@@ -117,54 +111,26 @@ inode_again : (version : ℕ) (bytes : List ℕ) → AreBytes bytes → length b
     → dinode_bytes (Some (named_dinode bytes)) ≡ bytes
 unfolding dinode_bytes
 inode_again version bytes are long test =
-    let three = and_parts _ _ test in
-    let two = and_parts _ _ three.0 in
-    let one = and_parts _ _ two.0 in
-    let at96 = zeros_again 32 (drop 96 bytes) (omega (arith, length-drop 96 bytes)) two.1 in
+    let gap : are_zeros (take 4 (drop 12 bytes)) ≡ true = (and_parts _ _ (and_parts _ _ (and_parts _ _ test).0).0).1 in
+    let end : are_zeros (drop 96 bytes) ≡ true = (and_parts _ _ (and_parts _ _ test).0).1 in
+    let at96 = zeros_again 32 (drop 96 bytes) (omega (arith, length-drop 96 bytes)) end in
     let at92 = field_again 4 92 96 bytes _ are (omega arith) (omega arith) at96 in
     let at80 = row_again 3 (drop 80 bytes) _ (rest_is_bytes 80 bytes are) (omega (arith, length-drop 80 bytes)) (at92 ∙ sym (drop-drop 12 80 bytes)) in
     let at32 = row_again 12 (drop 32 bytes) _ (rest_is_bytes 32 bytes are) (omega (arith, length-drop 32 bytes)) (at80 ∙ sym (drop-drop 48 32 bytes)) in
     let at24 = field_again 8 24 32 bytes _ are (omega arith) (omega arith) at32 in
     let at16 = field_again 8 16 24 bytes _ are (omega arith) (omega arith) at24 in
-    let zeros = zeros_again 4 (take 4 (drop 12 bytes)) (length-take-le 4 (drop 12 bytes) (omega (arith, length-drop 12 bytes))) one.1 in
+    let zeros = zeros_again 4 (take 4 (drop 12 bytes)) (length-take-le 4 (drop 12 bytes) (omega (arith, length-drop 12 bytes))) gap in
     let at12 = ap (λ (l : List ℕ). replicate 4 0 ++ l) (at16 ∙ sym (drop-drop 4 12 bytes)) ∙ ap (λ (l : List ℕ). l ++ drop 4 (drop 12 bytes)) zeros ∙ take-append-drop 4 (drop 12 bytes) in
     let at8 = field_again 4 8 12 bytes _ are (omega arith) (omega arith) at12 in
     let at4 = field_again 4 4 8 bytes _ are (omega arith) (omega arith) at8 in
     let at2 = field_again 2 2 4 bytes _ are (omega arith) (omega arith) at4 in
     field_again 2 0 2 bytes _ are (omega arith) (omega arith) at2
 
-pub again : (version : ℕ) (bytes : List ℕ) (d : Option Dinode) → AreBytes bytes → length bytes ≡ 128 → dinode_of version bytes ≡ Some d
+pub inode_spelled_again : (version : ℕ) (bytes : List ℕ) (d : Option Dinode) → AreBytes bytes → length bytes ≡ 128 → dinode_of version bytes ≡ Some d
     → dinode_bytes d ≡ bytes
 unfolding dinode_of dinode_bytes
-again version bytes d are long same =
+inode_spelled_again version bytes d are long same =
     elim (cases (are_zeros bytes) (is_dinode version bytes) (named_dinode bytes) d same) [
       | inl free ↦ ap dinode_bytes (sym free.1) ∙ zeros_again 128 bytes long free.0
       | inr found ↦ ap dinode_bytes (sym found.1) ∙ inode_again version bytes are long found.0
     ]
-
--- an inode written field by field, over zeros
-pub written : (d : Dinode) → length d.direct ≡ 12 → length d.indirect ≡ 3
-    → put_at (put_at (put_at (put_at (put_at (put_at (put_at (put_at (put_at (replicate 128 0) 0 (field_bytes 2 d.mode)) 2 (field_bytes 2 d.links))
-    4 (field_bytes 4 d.uid)) 8 (field_bytes 4 d.gid)) 16 (field_bytes 8 d.size)) 24 (field_bytes 8 d.mtime)) 32 (numbers_bytes d.direct))
-    80 (numbers_bytes d.indirect)) 92 (field_bytes 4 d.blocks) ≡ dinode_bytes (Some d)
-unfolding dinode_bytes
-written d direct indirect =
-    let front : List ℕ =
-    put_at (put_at (put_at (put_at (put_at (put_at (replicate 128 0) 0 (field_bytes 2 d.mode)) 2 (field_bytes 2 d.links)) 4 (field_bytes 4 d.uid))
-    8 (field_bytes 4 d.gid)) 16 (field_bytes 8 d.size)) 24 (field_bytes 8 d.mtime) in
-    let xs = numbers_bytes d.direct in
-    let ys = numbers_bytes d.indirect in
-    let zs = field_bytes 4 d.blocks in
-    let x_long : length xs ≡ 48 = omega (arith, length-numbers_bytes d.direct) in
-    let y_long : length ys ≡ 12 = omega (arith, length-numbers_bytes d.indirect) in
-    let long : length front ≡ 128 = refl in
-    let all_long : length (xs ++ (ys ++ zs)) ≡ 64 = omega (arith, length-append xs (ys ++ zs), length-append ys zs) in
-    let later : put_at (put_at (put_at front 32 xs) 80 ys) 92 zs ≡ put_at (put_at front 32 xs) 80 (ys ++ zs) =
-    pieces (put_at front 32 xs) ys zs 80 92 (omega arith) (omega (arith, length-put_at front xs 32 (omega arith))) in
-    let all : put_at (put_at front 32 xs) 80 (ys ++ zs) ≡ put_at front 32 (xs ++ (ys ++ zs)) =
-    pieces front xs (ys ++ zs) 32 80 (omega arith) (omega (arith, length-append ys zs)) in
-    let place : 32 + length (xs ++ (ys ++ zs)) ≡ 96 = omega arith in
-    let end : drop (32 + length (xs ++ (ys ++ zs))) front ≡ replicate 32 0 = ap (λ (k : ℕ). drop k front) place in
-    later ∙ all ∙ ap (λ (l : List ℕ). take 32 front ++ ((xs ++ (ys ++ zs)) ++ l)) end
-    ∙ ap (λ (l : List ℕ). take 32 front ++ l)
-    (append_assoc xs (ys ++ zs) (replicate 32 0) ∙ ap (λ (l : List ℕ). xs ++ l) (append_assoc ys zs (replicate 32 0)))

@@ -1,0 +1,39 @@
+use Rattle.std.proofs.Common.{◌*◌, ◌/◌, ◌%◌, slice_index, ap, ◌∙◌}
+use Rattle.std.specs.Option.{option_map}
+use Rattle.volume_model.specs.Sound.{InodeState, reading_of, index_claim, read_length, with_node, tree_of, shape_of, shape_of_node, node_of, used_of}
+use Rattle.volume_laws.specs.Changes.{with_state}
+use Rattle.volume_laws.proofs.ClaimFacts.{index_claimed}
+use Rattle.volume_laws.proofs.LessAgreement.{agree_in_metadata_but}
+use Rattle.volume_laws.proofs.BodyChanges.{has_record, only_owner, claims_of_others}
+use Rattle.volume_laws.proofs.ChunkChange.{chunk_state}
+use Rattle.volume_laws.proofs.OneEntry.{one_state, one_node, one_shape}
+use Rattle.volume_laws.proofs.changes.one_chunk.Goals as goal
+
+pub returns-clause-reading : goal.returns-clause-reading
+returns-clause-reading c g blocks others i k u ok laid used directory below there agree =
+    let r = reading_of g blocks in
+    let claim = index_claim i u (k / 8) in
+    let only = only_owner g blocks others ok laid claim (index_claimed r i u (k / 8) used there) (512 * (k % 8)) 512 agree in
+    one_state g blocks others i (has_record g blocks i u used).within only
+    ∙ ap (with_state r i) (chunk_state g blocks others ok laid i k u used directory below there agree)
+
+pub returns-clause-tree : goal.returns-clause-tree
+returns-clause-tree c g blocks others i k u ok laid used directory below there agree =
+    let r = reading_of g blocks in
+    let claim = index_claim i u (k / 8) in
+    let here = index_claimed r i u (k / 8) used there in
+    let mostly = agree_in_metadata_but g blocks others (slice_index u.numbers (k / 8)) (512 * (k % 8)) 512 agree in
+    let only = only_owner g blocks others ok laid claim here (512 * (k % 8)) 512 mostly in
+    one_node g blocks others i (has_record g blocks i u used).within only
+    (claims_of_others g blocks others ok laid claim here (read_length g r) (512 * (k % 8)) 512 agree)
+    ∙ ap (λ (s : InodeState). with_node (tree_of g blocks) i (option_map (node_of others) (used_of s)))
+    (chunk_state g blocks others ok laid i k u used directory below there mostly)
+
+pub returns-clause-shape : goal.returns-clause-shape
+returns-clause-shape c g blocks others i k u ok laid used directory below there agree =
+    let r = reading_of g blocks in
+    let claim = index_claim i u (k / 8) in
+    let only = only_owner g blocks others ok laid claim (index_claimed r i u (k / 8) used there) (512 * (k % 8)) 512 agree in
+    one_shape g blocks others i (has_record g blocks i u used).within only
+    ∙ ap (λ (s : InodeState). with_node (shape_of (tree_of g blocks)) i (option_map shape_of_node (option_map (node_of others) (used_of s))))
+    (chunk_state g blocks others ok laid i k u used directory below there agree)
