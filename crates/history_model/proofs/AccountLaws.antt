@@ -87,7 +87,7 @@ module _ (tree : Tree) (cred : Cred) where
   ends_in (call.Become uid gid) = tt
 
 -- a change of a slot adds no chunk
-length-changed_in : (f : List Slot → ℕ → List Slot) (chunks : List (List Slot)) (name : List ℕ) → length (changed_in f chunks name) ≡ length chunks
+pub length-changed_in : (f : List Slot → ℕ → List Slot) (chunks : List (List Slot)) (name : List ℕ) → length (changed_in f chunks name) ≡ length chunks
 length-changed_in f [] name = refl
 length-changed_in f (chunk ∷ chunks) name = by_place (found_at chunk name) (length-changed_in f chunks name) where
   by_place : (found : Option ℕ) → length (changed_in f chunks name) ≡ length chunks

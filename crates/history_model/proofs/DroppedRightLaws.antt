@@ -19,7 +19,7 @@ module _ {X : Type 0} (F : ℕ → List X) where
   namers len a = flat_map (λ j. map (λ x. j) (F j)) (range_with_len a len)
 
   -- where nothing names it
-  none_namer : (len a j : ℕ) → namers len a ≡ [] → a ≤ j → j < a + len → length (F j) ≡ 0
+  pub none_namer : (len a j : ℕ) → namers len a ≡ [] → a ≤ j → j < a + len → length (F j) ≡ 0
   none_namer zero a j is low high = absurd (omega arith)
   none_namer (suc len) a j is low high = by_list (F a) refl (none_namer len (a + 1) j) is where
     by_list : (xs : List X) → F a ≡ xs → (flat_map (λ k. map (λ x. k) (F k)) (range_with_len (a + 1) len) ≡ [] → a + 1 ≤ j → j < a + 1 + len → length (F j) ≡ 0)
@@ -31,7 +31,7 @@ module _ {X : Type 0} (F : ℕ → List X) where
     by_list (x ∷ xs) some later more = absurd (let e : a ∷ (map (λ x. a) xs ++ flat_map (λ k. map (λ x. k) (F k)) (range_with_len (a + 1) len)) ≡ [] = more in cc)
 
   -- where one names it, no other does, and that one but once
-  only_namer : (len a j p : ℕ) → namers len a ≡ p ∷ [] → a ≤ j → j < a + len → 0 < length (F j) → (j ≡ p) × (length (F j) ≤ 1)
+  pub only_namer : (len a j p : ℕ) → namers len a ≡ p ∷ [] → a ≤ j → j < a + len → 0 < length (F j) → (j ≡ p) × (length (F j) ≤ 1)
   only_namer zero a j p is low high some = absurd (omega arith)
   only_namer (suc len) a j p is low high some = by_list (F a) refl (only_namer len (a + 1) j p) is where
     by_list : (xs : List X) → F a ≡ xs
@@ -86,7 +86,7 @@ entries_alike i real (s ∷ slots) no_dot no_dot_dot =
 
 -- a directory names an inode just by entries, if it is neither itself nor above
 module _ (i k parent : ℕ) (real : i ≢ 0) (used : k ≢ 0) (above : parent ≢ 0) (other : k ≢ i) (not_above : parent ≢ i) where
-  row_alike : (slots : List Slot) → BeginsAs k parent slots → has_twice (in_use slots) ≡ false → slot_sum (of_inode i) slots ≡ slot_sum (of_entry i) slots
+  pub row_alike : (slots : List Slot) → BeginsAs k parent slots → has_twice (in_use slots) ≡ false → slot_sum (of_inode i) slots ≡ slot_sum (of_entry i) slots
   row_alike [] is once = refl
   row_alike (s ∷ []) is once = absurd (true≢false (sym is.0))
   row_alike (s ∷ (t ∷ more)) is once =

@@ -31,7 +31,7 @@ use Rattle.history_model.proofs.TotalLaws.{weight_in, total, same_or_not, total-
 use Rattle.history_model.proofs.AccountLaws.{changes_bytes, IsIn, EndsIn, ends_in, accounts, spent_at}
 
 -- how many chunks a directory has after a name was entered
-length-entered_in : (chunks : List (List Slot)) (name : List ℕ) (i : ℕ)
+pub length-entered_in : (chunks : List (List Slot)) (name : List ℕ) (i : ℕ)
     → length (entered_in chunks name i) ≡ length chunks + cond (not (list_any (λ chunk. is_some (room_in chunk name)) chunks)) 1 0
 length-entered_in [] name i = refl
 length-entered_in (chunk ∷ chunks) name i = by_room (room_in chunk name) (length-entered_in chunks name i) where

@@ -1,5 +1,5 @@
 -- The calls that change no name leave a right tree right.
-use Rattle.std.proofs.Common.{◌≡◌, ℕ, true, false, List, [], ◌∷◌, Option, Some, None, Result, Ok, Err, refl, sym, ap, subst, inl, inr, ◌∙◌, option_map}
+use Rattle.std.proofs.Common.{◌≡◌, ℕ, Bool, true, false, List, [], ◌∷◌, Option, Some, None, Result, Ok, Err, refl, sym, ap, subst, inl, inr, ◌∙◌, option_map}
 use Rattle.std.specs.Option.{option_map_or}
 use Rattle.lufs_base.specs.declared.geometry.Geometry.{Geometry}
 use Rattle.tree_types.specs.declared.credentials.Cred.{Cred}
@@ -16,9 +16,20 @@ use Rattle.history_model.specs.Edits.{SetAttributes, SetFile, SetTime, with_attr
 use Rattle.history_model.specs.Effects.{changing, rewriting, on_found_inode, edits_at}
 use Rattle.history_model.specs.Refusals.{Decision, Refuse, Unchanged, Proceed, decision_at}
 use Rattle.history_model.specs.Replies.{decided, walked_tree, tree_after}
-use Rattle.history_model.specs.Right.{IsRightWithin, changes_names}
+use Rattle.history_model.specs.Right.{IsRightWithin}
 use Rattle.history_model.proofs.NodeLaws.{with_node-here, with_node-other}
 use Rattle.history_model.proofs.TotalLaws.{same_or_not}
+
+-- the call may change which names there are
+abbrev pub changes_names : Call → Bool
+changes_names (call.Create path mode) = true
+changes_names (call.Mkdir path mode) = true
+changes_names (call.Link old new) = true
+changes_names (call.Symlink text path) = true
+changes_names (call.Rename old new) = true
+changes_names (call.Remove path) = true
+changes_names (call.Rmdir path) = true
+changes_names other = false
 
 -- what there is of names in an inode
 abbrev pub names_of : Option Node → Option (Option (List Slot))
@@ -89,7 +100,7 @@ module _ (g : Geometry) (tree : Tree) (cred : Cred) (ino moment : ℕ) where
         time_same (with_node tree i (Some (File (f file)))) i moment k
         ∙ with_same tree i (Some (File (f file))) (file_names (tree i) file (f file) is) k
 
-  at_same : (c : Call) (ends : WalkEnds) → changes_names c ≡ false → SameNames (edited_all (edits_at g tree cred ino moment c ends) tree) tree
+  pub at_same : (c : Call) (ends : WalkEnds) → changes_names c ≡ false → SameNames (edited_all (edits_at g tree cred ino moment c ends) tree) tree
   at_same (call.Create path mode) ends is = absurd (let e : true ≡ false = is in cc)
   at_same (call.Mkdir path mode) ends is = absurd (let e : true ≡ false = is in cc)
   at_same (call.Link old new) ends is = absurd (let e : true ≡ false = is in cc)

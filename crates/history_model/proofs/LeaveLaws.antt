@@ -128,13 +128,13 @@ module _ (name : List ℕ) (i : ℕ) where
 
   -- a slot with another name than these two is neither of the first two
   module _ (dir parent : ℕ) (not_dot : name ≢ dot) (not_dot_dot : name ≢ dot_dot) where
-    not_first : (s : Slot) (back : List Slot) → has_name name s ≡ true → BeginsAs dir parent (s ∷ back) → ⊥
+    pub not_first : (s : Slot) (back : List Slot) → has_name name s ≡ true → BeginsAs dir parent (s ∷ back) → ⊥
     not_first s [] holds is = true≢false (sym is.0)
     not_first s (t ∷ back) holds is =
         let parts = begin_parts dir s t back is.0 in
         not_dot (sym (name_is s holds) ∙ (bytes_eq-Decides s.name dot).0 parts.0)
 
-    not_second : (x s : Slot) (back : List Slot) → has_name name s ≡ true → BeginsAs dir parent (x ∷ (s ∷ back)) → ⊥
+    pub not_second : (x s : Slot) (back : List Slot) → has_name name s ≡ true → BeginsAs dir parent (x ∷ (s ∷ back)) → ⊥
     not_second x s back holds is =
         let parts = begin_parts dir x s back is.0 in
         not_dot_dot (sym (name_is s holds) ∙ (bytes_eq-Decides s.name dot_dot).0 parts.3)

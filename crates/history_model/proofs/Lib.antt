@@ -27,3 +27,17 @@ pub mod RemovedDirectoryLaws
 pub mod StepsLaws
 pub mod NewDirectoryLaws
 pub mod MadeDirectoryLaws
+pub mod PointLaws
+pub mod CountedLaws
+pub mod RenamedNamesLaws
+pub mod TurnedRowLaws
+pub mod RenamedRightLaws
+pub mod RenameLaws
+pub mod CarriedOutLaws
+pub mod SizeLaws
+pub mod AfterRightLaws
+pub mod LinkRangeLaws
+pub mod TextLaws
+pub mod BlockImageLaws
+pub mod FileImageLaws
+pub mod RightHistoryLaws

@@ -51,7 +51,7 @@ named_append (x ∷ xs) ys m =
 has_own : (s : Slot) → s.ino ≢ 0 → has_name s.name s ≡ true
 has_own s used = ap (λ (b : Bool). not b && bytes_eq s.name s.name) (ne_eqb s.ino 0 used) ∙ (bytes_eq-Decides s.name s.name).1 refl
 
-has_no_other : (s : Slot) (m : List ℕ) → m ≢ s.name → has_name m s ≡ false
+pub has_no_other : (s : Slot) (m : List ℕ) → m ≢ s.name → has_name m s ≡ false
 has_no_other s m other =
     elim (cases_Bool (bytes_eq s.name m)) [
       | inl same ↦ absurd (other (sym ((bytes_eq-Decides s.name m).0 same)))

@@ -24,7 +24,7 @@ use Rattle.history_model.specs.Refusals.{Decision, Refuse, Unchanged, Proceed, c
 use Rattle.history_model.specs.Effects.{making, naming, on_found_inode, new_file, new_link, edits_at}
 use Rattle.history_model.specs.Histories.{makes_inode, IsUsable}
 use Rattle.history_model.specs.Replies.{decided_reply, decided, walked_tree, tree_after}
-use Rattle.history_model.specs.Right.{IsRightWithin, names_no_directory}
+use Rattle.history_model.specs.Right.{IsRightWithin}
 use Rattle.history_model.proofs.NodeLaws.{with_node-here, with_node-other, on_node-here, on_node-other}
 use Rattle.history_model.proofs.NameLaws.{named, skip, takes}
 use Rattle.history_model.proofs.MakeLaws.{directory_in, rows_pass, none_of}
@@ -34,6 +34,13 @@ use Rattle.history_model.proofs.EnterLaws.{all_slots, enters}
 use Rattle.history_model.proofs.SlotRuleLaws.{in_use}
 use Rattle.history_model.proofs.RightNameLaws.{directory_of, none_so}
 use Rattle.history_model.proofs.EnterRightLaws.{enter_right}
+
+-- the call gives a new name to an inode that is no directory
+abbrev pub names_no_directory : Call → Bool
+names_no_directory (call.Create path mode) = true
+names_no_directory (call.Link old new) = true
+names_no_directory (call.Symlink text path) = true
+names_no_directory other = false
 
 -- an inode that is named is in use
 pub named_used : (used : ℕ → Bool) (name : List ℕ) (i : ℕ) (xs : List Slot) → named xs name ≡ Some i → list_any (λ s. not (used s.ino)) (in_use xs) ≡ false → (i ≢ 0) × (used i ≡ true)

@@ -18,29 +18,30 @@ use Rattle.history_model.proofs.LeaveRightLaws.{named_dot, named_dot_dot}
 use Rattle.history_model.proofs.DroppedRightLaws.{entry_own}
 use Rattle.history_model.proofs.StepsLaws.{any_in_range, in_range_any, in_few_steps}
 
--- where one alone names it, and once
-module _ {X : Type 0} (F : ℕ → List X) (p : ℕ) (one : length (F p) ≡ 1) where
-  no_namers : (len a : ℕ) → ((j : ℕ) → a ≤ j → j < a + len → length (F j) ≡ 0) → flat_map (λ j. map (λ x. j) (F j)) (range_with_len a len) ≡ []
+module _ {X : Type 0} (F : ℕ → List X) where
+  pub no_namers : (len a : ℕ) → ((j : ℕ) → a ≤ j → j < a + len → length (F j) ≡ 0) → flat_map (λ j. map (λ x. j) (F j)) (range_with_len a len) ≡ []
   no_namers zero a none = refl
   no_namers (suc len) a none =
       ap (λ (l : List ℕ). l ++ flat_map (λ j. map (λ x. j) (F j)) (range_with_len (a + 1) len)) (const_map a (F a) [] (none a (omega arith) (omega arith)))
       ∙ no_namers len (a + 1) (λ j low high. none j (omega arith) (omega arith))
 
-  single : (xs : List X) → length xs ≡ 1 → (j : ℕ) → map (λ x. j) xs ≡ j ∷ []
-  single [] is j = absurd (omega arith)
-  single (x ∷ []) is j = refl
-  single (x ∷ (y ∷ xs)) is j = absurd (omega arith)
+  -- where one alone names it, and once
+  module _ (p : ℕ) (one : length (F p) ≡ 1) where
+    single : (xs : List X) → length xs ≡ 1 → (j : ℕ) → map (λ x. j) xs ≡ j ∷ []
+    single [] is j = absurd (omega arith)
+    single (x ∷ []) is j = refl
+    single (x ∷ (y ∷ xs)) is j = absurd (omega arith)
 
-  single_namer : (len a : ℕ) → a ≤ p → p < a + len → ((j : ℕ) → j ≢ p → a ≤ j → j < a + len → length (F j) ≡ 0) → flat_map (λ j. map (λ x. j) (F j)) (range_with_len a len) ≡ p ∷ []
-  single_namer zero a low high none = absurd (omega arith)
-  single_namer (suc len) a low high none = elim (cases_eq a p) [
-    | inl same ↦
-        ap (λ (l : List ℕ). map (λ x. a) (F a) ++ l) (no_namers len (a + 1) (λ j less more. none j (λ e. omega arith) (omega arith) (omega arith)))
-        ∙ ap (λ (l : List ℕ). l ++ []) (single (F a) (ap (λ (j : ℕ). length (F j)) same ∙ one) a) ∙ ap (λ (j : ℕ). j ∷ []) same
-    | inr apart ↦
-        ap (λ (l : List ℕ). l ++ flat_map (λ j. map (λ x. j) (F j)) (range_with_len (a + 1) len)) (const_map a (F a) [] (none a apart (omega arith) (omega arith)))
-        ∙ single_namer len (a + 1) (omega arith) (omega arith) (λ j other less more. none j other (omega arith) (omega arith))
-  ]
+    pub single_namer : (len a : ℕ) → a ≤ p → p < a + len → ((j : ℕ) → j ≢ p → a ≤ j → j < a + len → length (F j) ≡ 0) → flat_map (λ j. map (λ x. j) (F j)) (range_with_len a len) ≡ p ∷ []
+    single_namer zero a low high none = absurd (omega arith)
+    single_namer (suc len) a low high none = elim (cases_eq a p) [
+      | inl same ↦
+          ap (λ (l : List ℕ). map (λ x. a) (F a) ++ l) (no_namers len (a + 1) (λ j less more. none j (λ e. omega arith) (omega arith) (omega arith)))
+          ∙ ap (λ (l : List ℕ). l ++ []) (single (F a) (ap (λ (j : ℕ). length (F j)) same ∙ one) a) ∙ ap (λ (j : ℕ). j ∷ []) same
+      | inr apart ↦
+          ap (λ (l : List ℕ). l ++ flat_map (λ j. map (λ x. j) (F j)) (range_with_len (a + 1) len)) (const_map a (F a) [] (none a apart (omega arith) (omega arith)))
+          ∙ single_namer len (a + 1) (omega arith) (omega arith) (λ j other less more. none j other (omega arith) (omega arith))
+    ]
 
 by_use : (free d same : Bool) → cond (not free) (one_if true) 0 ≡ 0 → entry_by (not free) d same ≡ 0
 by_use true d same is = refl

@@ -46,12 +46,12 @@ filter_both p q (x ∷ xs) =
     ]
 
 -- the entries of a directory are those of the names
-entries_as : (tree : Tree) (i : ℕ) → entries_at (names_in_tree tree) i ≡ entries_in tree i
+pub entries_as : (tree : Tree) (i : ℕ) → entries_at (names_in_tree tree) i ≡ entries_in tree i
 entries_as tree i =
     filter_both (λ (s : Slot). not (s.ino == 0)) (λ s. not (is_dots s.name)) (slots_from (names_of (tree i)))
     ∙ ap (λ (slots : List Slot). filter (λ s. not (s.ino == 0) && not (is_dots s.name)) slots) (slots_as (tree i))
 
-not_dots : (name : List ℕ) → is_dots name ≡ false → (name ≢ dot) × (name ≢ dot_dot)
+pub not_dots : (name : List ℕ) → is_dots name ≡ false → (name ≢ dot) × (name ≢ dot_dot)
 not_dots name is =
     let parts = or_parts (bytes_eq name dot) (bytes_eq name dot_dot) is in
     (λ e. true≢false (sym ((bytes_eq-Decides name dot).1 e) ∙ parts.0), λ e. true≢false (sym ((bytes_eq-Decides name dot_dot).1 e) ∙ parts.1))

@@ -45,7 +45,7 @@ slots_as (Some (Directory directory)) = refl
 slots_as (Some (Link link)) = refl
 
 -- a sum of nothing has no part
-none_at : (f : ℕ → ℕ) (len a k : ℕ) → sum_by f (range_with_len a len) ≡ 0 → a ≤ k → k < a + len → f k ≡ 0
+pub none_at : (f : ℕ → ℕ) (len a k : ℕ) → sum_by f (range_with_len a len) ≡ 0 → a ≤ k → k < a + len → f k ≡ 0
 none_at f zero a k none low high = absurd (omega arith)
 none_at f (suc len) a k none low high =
     let at = sum_by-cons f a (range_with_len (a + 1) len) in
@@ -54,7 +54,7 @@ none_at f (suc len) a k none low high =
       | inr apart ↦ none_at f len (a + 1) k (omega (arith, at, none)) (omega arith) (omega arith)
     ]
 
-weight_slots : (i : ℕ) (o : Option Node) → weight_in (names_in i) o ≡ slot_sum (of_inode i) (slots_from (names_of o))
+pub weight_slots : (i : ℕ) (o : Option Node) → weight_in (names_in i) o ≡ slot_sum (of_inode i) (slots_from (names_of o))
 weight_slots i None = refl
 weight_slots i (Some (File file)) = refl
 weight_slots i (Some (Directory directory)) = refl

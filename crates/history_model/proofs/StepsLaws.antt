@@ -1,5 +1,5 @@
 -- Steps up that lead to the root do so in fewer steps than there are inodes.
-use Rattle.std.proofs.Common.{◌≡◌, ◌≢◌, ◌≤◌, ◌<◌, ℕ, zero, suc, ◌+◌, ◌-◌, ◌==◌, Bool, true, List, [], ◌∷◌, refl, sym, ap, inl, inr, ◌∙◌, arith, sum_by}
+use Rattle.std.proofs.Common.{◌≡◌, ◌≢◌, ◌≤◌, ◌<◌, ℕ, zero, suc, ◌+◌, ◌-◌, ◌==◌, Bool, true, false, List, [], ◌∷◌, refl, sym, ap, inl, inr, ◌∙◌, arith, sum_by}
 use Rattle.std.proofs.lemmas.Bool.{cases_Bool, cases_eq, or_cases, or_left, or_right, true≢false, eqb-true, eqb-false, eq-eqb, ne_eqb}
 use Rattle.std.proofs.lemmas.List.Sums.{sum_by-cons}
 use Rattle.std.specs.List.{list_any, count_by, range_with_len}
@@ -13,6 +13,13 @@ any_in_range p (suc len) a k low high is = elim (cases_eq a k) [
   | inr apart ↦ or_right (p a) (list_any p (range_with_len (a + 1) len)) (any_in_range p len (a + 1) k (omega arith) (omega arith) is)
 ]
 
+-- what holds of none of the first n numbers
+pub none_in_range : (p : ℕ → Bool) (n : ℕ) → list_any p (range_with_len 0 n) ≡ false → (i : ℕ) → i < n → p i ≡ false
+none_in_range p n none i less = elim (cases_Bool (p i)) [
+  | inl holds ↦ absurd (true≢false (sym (any_in_range p n 0 i (omega arith) (omega arith) holds) ∙ none))
+  | inr fails ↦ fails
+]
+
 pub in_range_any : (p : ℕ → Bool) (len a : ℕ) → list_any p (range_with_len a len) ≡ true → (k : ℕ) × (p k ≡ true)
 in_range_any p zero a is = absurd (true≢false (sym is))
 in_range_any p (suc len) a is = elim (or_cases (p a) (list_any p (range_with_len (a + 1) len)) is) [
@@ -20,7 +27,7 @@ in_range_any p (suc len) a is = elim (or_cases (p a) (list_any p (range_with_len
   | inr later ↦ in_range_any p len (a + 1) later
 ]
 
-sum_none : (f : ℕ → ℕ) (len a : ℕ) → ((k : ℕ) → a ≤ k → k < a + len → f k ≡ 0) → sum_by f (range_with_len a len) ≡ 0
+pub sum_none : (f : ℕ → ℕ) (len a : ℕ) → ((k : ℕ) → a ≤ k → k < a + len → f k ≡ 0) → sum_by f (range_with_len a len) ≡ 0
 sum_none f zero a none = refl
 sum_none f (suc len) a none =
     omega (arith, sum_by-cons f a (range_with_len (a + 1) len), none a (omega arith) (omega arith), sum_none f len (a + 1) (λ k low high. none k (omega arith) (omega arith)))

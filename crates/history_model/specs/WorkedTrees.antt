@@ -49,6 +49,27 @@ first_chunk i parent slots = slot i 12 (codes ".") ∷ (slot parent 12 (codes ".
 abbrev pub tree_with : (chunks : List (List Slot)) → (nodes : List Node) → Tree
 tree_with chunks nodes = tree_of_nodes (directory_of chunks ∷ nodes)
 
+-- A directory `d` and a file of two names, `/f` and `/d/g`.
+abbrev pub family_nodes : List Node
+family_nodes =
+    directory_of (first_chunk 2 2 (slot 3 12 (codes "d") ∷ (slot 4 476 (codes "f") ∷ [])) ∷ [])
+    ∷ (directory_of (first_chunk 3 2 (slot 4 488 (codes "g") ∷ []) ∷ []) ∷ (empty_file ∷ []))
+
+abbrev pub family : Tree
+family = tree_of_nodes family_nodes
+
+-- two names of one directory; two directories each above the other; and a name of an inode that isn't in use
+abbrev pub twins : Tree
+twins = tree_with (first_chunk 2 2 (slot 3 12 (codes "a") ∷ (slot 3 476 (codes "b") ∷ [])) ∷ []) (directory_of (new_directory 3 2 ∷ []) ∷ [])
+
+abbrev pub circle : Tree
+circle =
+    tree_with (new_directory 2 2 ∷ [])
+    (directory_of (first_chunk 3 4 (slot 4 488 (codes "b") ∷ []) ∷ []) ∷ (directory_of (first_chunk 4 3 (slot 3 488 (codes "a") ∷ []) ∷ []) ∷ []))
+
+abbrev pub orphan : Tree
+orphan = tree_with (first_chunk 2 2 (slot 5 488 (codes "a") ∷ []) ∷ []) []
+
 -- a name of 255 bytes
 abbrev pub longest : (byte : ℕ) → List ℕ
 longest byte = replicate 255 byte

@@ -1,10 +1,14 @@
 // The laws of histories: what more entries change of them, and moments one after the other.
-ghost use Rattle.std.specs.Prelude.{◌≡◌, ◌≤◌, ◌↔◌, ℕ, ◌+◌, ◌∷◌, ◌++◌, [], List, length, false};
+ghost use Rattle.std.specs.Prelude.{◌≡◌, ◌≤◌, ◌↔◌, ℕ, ◌+◌, ◌∷◌, ◌++◌, [], List, length, false, IfSome};
+ghost use Rattle.std.specs.List.{AllByRecursion};
 ghost use Rattle.lufs_base.specs.declared.geometry.Geometry.{Geometry};
 ghost use Rattle.tree_types.specs.declared.history.Entry.{Entry};
 ghost use Rattle.volume_model.specs.Crash.{Record};
 ghost use Rattle.volume_model.specs.Sound.{Tree};
 ghost use Rattle.history_model.specs.Histories.{History, replayed_on, replay_of, after_call, Legal, IsRightAfter};
+ghost use Rattle.history_model.specs.Right.{IsRightWithin};
+ghost use Rattle.history_model.specs.Ranges.{HasLinksInRange, HasSizesInRange, HasText};
+ghost use Rattle.history_model.specs.Used.{HasRightFiles};
 ghost use Rattle.history_model.specs.Touched.{Settled};
 ghost use Rattle.history_model.specs.CrashSafety.{IsCrashSafeAt, CrashSafe};
 
@@ -32,4 +36,17 @@ pub fn moments_join()
 /// In a session that did nothing yet, each byte is settled by the opening.
 pub fn opening_settles()
     ensures { (g : Geometry) (moment : ℕ) (opening : Tree) (n ino p : ℕ) → Settled g moment opening [] n ino p }
+{}
+
+/// Along a legal history trees stay right, their files too, and links in their range. Sizes do where each link that is made is
+/// given a text.
+pub fn histories_stay_right()
+    ensures names { (g : Geometry) (moment : ℕ) (opening : Tree) (entries : List Entry) (k : ℕ) → Legal g moment opening entries
+        → IsRightWithin g opening → IsRightWithin g (replay_of g moment opening entries k) }
+    ensures links { (g : Geometry) (moment : ℕ) (opening : Tree) (entries : List Entry) (k : ℕ) → Legal g moment opening entries
+        → IsRightWithin g opening → HasLinksInRange g opening → HasLinksInRange g (replay_of g moment opening entries k) }
+    ensures files { (g : Geometry) (moment : ℕ) (opening : Tree) (entries : List Entry) (k : ℕ) → Legal g moment opening entries
+        → HasRightFiles opening → HasRightFiles (replay_of g moment opening entries k) }
+    ensures sizes { (g : Geometry) (moment : ℕ) (opening : Tree) (entries : List Entry) (k : ℕ) → Legal g moment opening entries
+        → AllByRecursion (λ e. IfSome e.call HasText) entries → HasSizesInRange opening → HasSizesInRange (replay_of g moment opening entries k) }
 {}

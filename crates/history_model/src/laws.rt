@@ -3,10 +3,9 @@ ghost use Rattle.std.specs.Prelude.{◌≡◌, ◌≢◌, ◌<◌, ◌==◌, ◌
 ghost use Rattle.lufs_base.specs.declared.geometry.Geometry.{Geometry};
 ghost use Rattle.tree_types.specs.declared.credentials.Cred.{Cred};
 ghost use Rattle.tree_types.specs.declared.call.Call.{Call};
-ghost use Rattle.tree_types.specs.declared.call.Call.TheVariants as call;
 ghost use Rattle.tree_types.specs.declared.reply.Refusal.{Refusal};
 ghost use Rattle.tree_types.specs.declared.reply.Reply.TheVariants as reply;
-ghost use Rattle.volume_model.specs.Sound.{Tree, DirectoryNode, Directory, shape_of, used_in_tree, claimed_in_tree};
+ghost use Rattle.volume_model.specs.Sound.{Tree, DirectoryNode, Directory, shape_of, used_in_tree, claimed_in_tree, links_to, names_in_tree};
 ghost use Rattle.history_model.specs.Places.{is_directory_in, links_in, lookup};
 ghost use Rattle.history_model.specs.Edits.{Enter, edited};
 ghost use Rattle.volume_model.specs.Format.{inodes_of};
@@ -19,7 +18,9 @@ ghost use Rattle.history_model.specs.Effects.{made_node};
 ghost use Rattle.history_model.specs.Histories.{makes_inode, IsUsable};
 ghost use Rattle.history_model.specs.Made.{HasMade};
 ghost use Rattle.history_model.specs.Used.{IsOfUsed, HasRightFiles};
-ghost use Rattle.history_model.specs.Right.{IsRightWithin, changes_names, names_no_directory};
+ghost use Rattle.history_model.specs.Right.{IsRightWithin};
+ghost use Rattle.history_model.specs.Ranges.{HasLinksInRange, HasSizesInRange, HasText};
+ghost use Rattle.history_model.specs.Lines.{Request, request_of};
 
 /// A call that is refused changes nothing and claims nothing.
 pub fn refused_changes_nothing()
@@ -75,24 +76,31 @@ pub fn links_entered()
         → links_in g (edited (Enter dir name i) tree) j ≡ links_in g tree j + (if i == j then 1 else 0) }
 {}
 
+/// The links of an inode are as many as a sound volume's record of it has: the slots in use that name it.
+pub fn links_counted()
+    ensures { (g : Geometry) (tree : Tree) (i : ℕ) → i ≢ 0 → links_in g tree i ≡ links_to (inodes_of g) (names_in_tree tree) i }
+{}
+
 /// Files that have an index for each block below their size stay so under every call.
 pub fn files_stay_right()
     ensures { (g : Geometry) (tree : Tree) (cred : Cred) (ino moment : ℕ) (call : Call)
         → HasRightFiles tree → HasRightFiles (tree_after g tree cred ino moment call) }
 {}
 
-/// A right tree stays right under every call but `rename`: those that change no name, those that name an inode that is no
-/// directory, `remove`, `rmdir` and `mkdir`.
+/// A right tree stays right under every call. An inode that the call makes was free.
 pub fn trees_stay_right()
-    ensures same_names { (g : Geometry) (tree : Tree) (cred : Cred) (ino moment : ℕ) (call : Call)
-        → changes_names call ≡ false → IsRightWithin g tree → IsRightWithin g (tree_after g tree cred ino moment call) }
-    ensures name_given { (g : Geometry) (tree : Tree) (cred : Cred) (ino moment : ℕ) (call : Call)
-        → names_no_directory call ≡ true → (makes_inode call ≡ true → IsUsable g tree ino) → IsRightWithin g tree
-        → IsRightWithin g (tree_after g tree cred ino moment call) }
-    ensures name_removed { (g : Geometry) (tree : Tree) (cred : Cred) (ino moment : ℕ) (path : List ℕ)
-        → IsRightWithin g tree → IsRightWithin g (tree_after g tree cred ino moment (call.Remove path)) }
-    ensures directory_removed { (g : Geometry) (tree : Tree) (cred : Cred) (ino moment : ℕ) (path : List ℕ)
-        → IsRightWithin g tree → IsRightWithin g (tree_after g tree cred ino moment (call.Rmdir path)) }
-    ensures directory_made { (g : Geometry) (tree : Tree) (cred : Cred) (ino moment : ℕ) (path : List ℕ) (mode : ℕ)
-        → IsUsable g tree ino → IsRightWithin g tree → IsRightWithin g (tree_after g tree cred ino moment (call.Mkdir path mode)) }
+    ensures { (g : Geometry) (tree : Tree) (cred : Cred) (ino moment : ℕ) (call : Call)
+        → (makes_inode call ≡ true → IsUsable g tree ino) → IsRightWithin g tree → IsRightWithin g (tree_after g tree cred ino moment call) }
+{}
+
+/// Links and sizes stay in their ranges under every call, where an inode that it makes was free and a link that it makes is
+/// given a text, as each call of a line is.
+pub fn numbers_stay_in_range()
+    ensures links { (g : Geometry) (tree : Tree) (cred : Cred) (ino moment : ℕ) (call : Call)
+        → (makes_inode call ≡ true → IsUsable g tree ino) → IsRightWithin g tree → HasLinksInRange g tree
+        → HasLinksInRange g (tree_after g tree cred ino moment call) }
+    ensures sizes { (g : Geometry) (tree : Tree) (cred : Cred) (ino moment : ℕ) (call : Call)
+        → (makes_inode call ≡ true → IsUsable g tree ino) → HasText call → HasSizesInRange tree
+        → HasSizesInRange (tree_after g tree cred ino moment call) }
+    ensures texts { (text : List ℕ) (request : Request) → request_of text ≡ Some request → HasText request.call }
 {}
