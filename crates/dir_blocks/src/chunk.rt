@@ -100,6 +100,13 @@ impl Chunk {
         self.slots.as_slice()
     }
 
+    /// The slots, in the order of the chunk.
+    pub fn into_slots(self) -> Vec<Slot>
+        ensures { result.items ≡ self }
+    {
+        self.slots
+    }
+
     /// The place of the first slot in use that has this name.
     pub fn find(&self, name: &Name) -> Option<usize>
         ensures value { result ≡ found_at self.now name.now }

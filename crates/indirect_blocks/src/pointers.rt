@@ -32,6 +32,14 @@ impl Pointers {
         self.numbers[entry]
     }
 
+    /// The numbers, in their order.
+    pub fn as_slice(&self) -> &[u32]
+        ensures value { result.now ≡ self.now }
+        ensures size { length self.now ≡ 1024 }
+    {
+        self.numbers.as_slice()
+    }
+
     /// Sets the number in this entry. The others stay.
     pub fn set(&mut self, entry: usize, number: u32)
         requires { entry < 1024 }

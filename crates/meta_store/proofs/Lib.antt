@@ -1,0 +1,4 @@
+pub mod LaidBlocks
+pub mod LaidParts
+pub mod LiveDeltas
+pub mod LogLaid

@@ -1,0 +1,4 @@
+pub mod Store
+pub mod Laid
+pub mod Index
+pub mod LaidSize

@@ -1,0 +1,33 @@
+ghost use Rattle.std.specs.Prelude.{◌≡◌, ◌≤◌, ◌<◌, ◌*◌, length, IfSome, OnOk};
+ghost use Rattle.lufs_base.specs.Layout.{IsGeometry, blocks_of};
+ghost use Rattle.volume_model.specs.Format.{sectors_of};
+ghost use Rattle.sector_disk.specs.Disk.{CountsFailure};
+ghost use Rattle.meta_store.specs.Store.{StoreTold, IsBlockRead, IsUnchanged};
+
+use lufs_base::{BlockNo, DiskFault, Geometry};
+
+/// The blocks of a volume, as far as they are read (`docs/DEFINITIONS.md`, "What a store tells").
+pub trait MetaRead: Drop {
+    /// What it tells of itself: its geometry always, what its blocks hold as it likes.
+    ghost store: { Self → StoreTold };
+
+    /// The geometry of the volume. No call changes it.
+    fn geometry(&self) -> &Geometry
+        ensures value { result.now ≡ (store self.now).geometry }
+        ensures in_range { IsGeometry (store self.now).geometry };
+
+    /// How many faults the disk under it met; 0 where it has none.
+    fn faults(&self) -> u64
+        ensures { result ≡ (store self.now).disk.faults };
+
+    /// Reads block `b`, 4,096 bytes. After an `Err` `out` holds anything.
+    fn block(&mut self, b: BlockNo, out: &mut [u8]) -> Result<(), DiskFault>
+        requires inside { b.0 < blocks_of (store self.old).geometry }
+        requires size { length out.old ≡ 4096 }
+        ensures bytes { OnOk result (IsBlockRead b.0 out.new (store self.old)) }
+        ensures unchanged { IsUnchanged (store self.old) (store self.new) }
+        ensures failure { CountsFailure result (store self.old).disk (store self.new).disk };
+
+    /// The content that is told has the blocks of the volume.
+    ghost size: { (s : Self) → IfSome (store s).content (λ image. 8 * blocks_of (store s).geometry ≤ sectors_of image) };
+}

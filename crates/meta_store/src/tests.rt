@@ -1,0 +1,224 @@
+ghost use Rattle.std.specs.Prelude.{◌≡◌, ◌%◌, length, IfOk};
+
+use crate::{LaidDeltas, MetaRead, PlainStore, ReplayedDisk};
+use lufs_base::{BLOCK, BlockNo, Bytes, Delta, DeltaKind, DeltaList, DiskFault, Geometry, Mem};
+use sector_disk::{Disk, Fail, MemDisk, SureDisk};
+use std::alloc::Global;
+use volume_model::{Tx, TxList};
+
+/// A volume of 99 blocks: group block 35, inode block 36, and body blocks from 37 on.
+const SMALLEST: Geometry = Geometry {
+    version: 1,
+    groups: 1,
+    bpg: 64,
+    ipg: 32,
+    log: 256,
+};
+
+/// A block of each kind, and more body blocks.
+const BLOCKS: [u32; 8] = [0, 2, 3, 35, 36, 37, 38, 98];
+
+/// A delta: its transaction, from 1, its kind, its block, its place there, its length, and the byte that
+/// fills it.
+type Change = (u32, DeltaKind, u32, u32, u32, u8);
+
+/// The places of a block from one up to another, and the byte that fills them.
+type Span = (u32, usize, usize, u8);
+
+// A volume whose blocks are filled with their numbers.
+fn numbered_blocks(alloc: Global) -> Result<Vec<u8>, Mem>
+    ensures { IfOk result (λ image. length image.items ≡ 405504) }
+{
+    let mut image = Vec::new(alloc);
+    for b in 0..99u8 {
+        image.extend_from_slice(&[b; BLOCK])?;
+    }
+    if image.len() != 405_504 {
+        return Err(Mem);
+    }
+    Ok(image)
+}
+
+fn delta_of(alloc: Global, change: &Change) -> Result<Delta, Mem> {
+    let (_, kind, block, place, len, byte) = *change;
+    let mut bytes = Vec::new(alloc);
+    if kind.has_bytes() {
+        for _ in 0..len {
+            bytes.push(byte)?;
+        }
+    }
+    Ok(Delta {
+        kind,
+        home: 4096 * u64::from(block) + u64::from(place),
+        len,
+        bytes: Bytes::from_vec(bytes),
+    })
+}
+
+// A log of three transactions.
+fn log_of(alloc: Global, changes: &[Change]) -> Result<TxList, Mem> {
+    let mut log = TxList::new(alloc);
+    for tid in 1..4 {
+        let mut deltas = DeltaList::new(alloc);
+        for change in changes {
+            if change.0 == tid {
+                deltas.push(delta_of(alloc, change)?)?;
+            }
+        }
+        log.push(Tx {
+            tid,
+            first: 0,
+            sectors: 1,
+            deltas,
+        })?;
+    }
+    Ok(log)
+}
+
+// The smallest volume on this disk, with these deltas laid over it, if the disk has room for it.
+fn over<D: Disk>(
+    alloc: Global,
+    disk: D,
+    changes: &[Change],
+) -> Result<Option<ReplayedDisk<D>>, Mem> {
+    let laid = LaidDeltas::new(alloc, &log_of(alloc, changes)?)?;
+    if disk.sectors() < 792 {
+        return Ok(None);
+    }
+    Ok(Some(ReplayedDisk::over(disk, &SMALLEST, laid)))
+}
+
+// Reads a block, if the volume has it.
+fn read<M: MetaRead>(store: &mut M, b: u32) -> Result<[u8; BLOCK], DiskFault> {
+    let mut out = [0xee; BLOCK];
+    if b < store.geometry().total() {
+        store.block(BlockNo(b), &mut out)?;
+    }
+    Ok(out)
+}
+
+// The first place, with its block, that is neither in one of these spans nor as it was.
+fn first_wrong<M: MetaRead>(
+    store: &mut M,
+    spans: &[Span],
+) -> Result<Option<(u32, usize)>, DiskFault> {
+    for b in BLOCKS {
+        for (place, byte) in read(store, b)?.iter().enumerate() {
+            let mut right = u32::from(*byte) == b;
+            for (block, from, to, filled) in spans {
+                if *block == b && *from <= place && place < *to {
+                    right = byte == filled;
+                }
+            }
+            if !right {
+                return Ok(Some((b, place)));
+            }
+        }
+    }
+    Ok(None)
+}
+
+#[test]
+fn blocks_of_an_image(rt: HostRuntime) -> Result<(), std::test::Fail> {
+    let mut store = PlainStore::new(&SMALLEST, numbered_blocks(rt.alloc())?);
+    assert_eq!(rt; first_wrong(&mut store, &[])?, None);
+    assert_eq!(rt;
+        first_wrong(&mut store, &[(98, 0, 4096, 1)])?,
+        Some((98, 0))
+    );
+    assert_eq!(rt; store.faults(), 0);
+    Ok(())
+}
+
+#[test]
+fn deltas_laid_over(rt: HostRuntime) -> Result<(), std::test::Fail> {
+    let alloc = rt.alloc();
+    for (changes, spans) in [
+        // No log.
+        (&[][..], &[][..]),
+        // A delta of each kind.
+        (
+            &[
+                (1, DeltaKind::Group, 35, 0, 416, 0xa0),
+                (1, DeltaKind::Inode, 36, 256, 128, 0xa1),
+                (1, DeltaKind::Chunk, 37, 3584, 512, 0xa2),
+                (1, DeltaKind::Pointers, 38, 4092, 4, 0xa3),
+                (1, DeltaKind::LinkText, 98, 0, 1, 0xa4),
+                (2, DeltaKind::Zero, 3, 0, 4096, 0xa5),
+                (3, DeltaKind::Cancel, 2, 0, 4096, 0xa6),
+            ][..],
+            &[
+                (35, 0, 416, 0xa0),
+                (36, 256, 384, 0xa1),
+                (37, 3584, 4096, 0xa2),
+                (38, 4092, 4096, 0xa3),
+                (98, 0, 1, 0xa4),
+                (3, 0, 4096, 0),
+            ][..],
+        ),
+        // The later one of two transactions.
+        (
+            &[
+                (1, DeltaKind::Chunk, 37, 0, 512, 1),
+                (1, DeltaKind::Chunk, 37, 512, 512, 2),
+                (2, DeltaKind::Pointers, 37, 508, 8, 4),
+            ][..],
+            &[(37, 0, 508, 1), (37, 508, 516, 4), (37, 516, 1024, 2)][..],
+        ),
+        // A zero block with a chunk laid over it.
+        (
+            &[
+                (1, DeltaKind::Chunk, 38, 0, 512, 7),
+                (2, DeltaKind::Zero, 38, 0, 4096, 0),
+                (2, DeltaKind::Chunk, 38, 1024, 512, 5),
+            ][..],
+            &[(38, 0, 4096, 0), (38, 1024, 1536, 5)][..],
+        ),
+        // A cancel makes older deltas of its block void, and no others.
+        (
+            &[
+                (1, DeltaKind::Chunk, 37, 0, 512, 1),
+                (1, DeltaKind::Chunk, 38, 0, 512, 2),
+                (2, DeltaKind::Cancel, 37, 0, 4096, 0),
+            ][..],
+            &[(38, 0, 512, 2)][..],
+        ),
+        // What is logged with a cancel or after it is laid.
+        (
+            &[
+                (1, DeltaKind::Chunk, 37, 0, 512, 1),
+                (2, DeltaKind::Cancel, 37, 0, 4096, 0),
+                (2, DeltaKind::Chunk, 37, 512, 512, 2),
+                (3, DeltaKind::Chunk, 37, 1024, 512, 3),
+            ][..],
+            &[(37, 512, 1024, 2), (37, 1024, 1536, 3)][..],
+        ),
+    ] {
+        let disk = SureDisk::new(numbered_blocks(alloc)?);
+        let Some(mut store) = over(alloc, disk, changes)? else {
+            return Err(std::test::Fail::new("a small disk"));
+        };
+        assert_eq!(rt; first_wrong(&mut store, spans)?, None, "{changes:?}");
+    }
+    Ok(())
+}
+
+#[test]
+fn a_read_that_fails(rt: HostRuntime) -> Result<(), std::test::Fail> {
+    let alloc = rt.alloc();
+    let fails = Vec::from_slice(alloc, &[Fail::Read(2)])?;
+    let disk = MemDisk::new(numbered_blocks(alloc)?, fails);
+    let change = (1, DeltaKind::Chunk, 37, 0, 512, 1);
+    let Some(mut store) = over(alloc, disk, &[change])? else {
+        return Err(std::test::Fail::new("a small disk"));
+    };
+    for (works, faults) in [(true, 0), (false, 1), (true, 1)] {
+        match read(&mut store, 37) {
+            Ok(out) => assert_eq!(rt; (works, out[511], out[512]), (true, 1, 37)),
+            Err(DiskFault) => assert_eq!(rt; works, false),
+        }
+        assert_eq!(rt; store.faults(), faults);
+    }
+    assert_eq!(rt; store.into_disk().faults(), 1);
+    Ok(())
+}
