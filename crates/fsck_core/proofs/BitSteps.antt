@@ -1,0 +1,156 @@
+-- The bits of groups and their counts, by the records that a check keeps.
+use Rattle.std.proofs.Common.{◌≡◌, ◌<◌, ◌≤◌, inl, inr, ℕ, ◌+◌, ◌-◌, ◌*◌, ◌/◌, ◌%◌, Bool, true, false, not, ◌&&◌, ◌||◌, cond, List, [], ◌∷◌, length, map, Option, Some, None, refl, sym, ap, ◌∙◌, arith}
+use Rattle.std.specs.Prelude.{slice_get, option_map, is_some, sum_by}
+use Rattle.std.specs.List.{count_by, range_with_len}
+use Rattle.std.specs.Option.{option_map_or}
+use Rattle.std.proofs.Math.Bool.{beq}
+use Rattle.std.proofs.Math.Nat.{div-lt_iff_lt-mul}
+use Rattle.std.proofs.lemmas.Bool.{cases_Bool, cases_lt, le-leb, true≢false}
+use Rattle.std.proofs.lemmas.List.Sums.{sum_by-cons}
+use Rattle.std.proofs.lemmas.Option.{slice_get_cases}
+use Rattle.lufs_base.specs.Layout.{IsGeometry, group_start, blocks_of}
+use Rattle.lufs_base.specs.declared.geometry.Geometry.{Geometry}
+use Rattle.volume_model.specs.declared.finding.Counts.{Counts}
+use Rattle.volume_model.specs.declared.inode.Dinode.{Dinode}
+use Rattle.volume_model.specs.Format.{Blocks, GroupRecord, inodes_of, body_blocks_of, bit_at, clear_bits, is_body}
+use Rattle.volume_model.specs.Sound.{Reading, UsedInode, reading_of, inode_at, state_of, state_at, used_of, used_at, used_inode, is_claimed, claims_of, inode_bit, block_bit, differ, has_bad_inode_bit, has_bad_block_bit, has_bad_count, has_right_counts, counts_of}
+use Rattle.volume_laws.proofs.BodyBlocks.{none_before}
+use Rattle.volume_laws.proofs.Counting.{one_if, sum_of_range, sum_of_map}
+use Rattle.volume_laws.proofs.FreeBits.{clear_counted}
+use Rattle.cyl_groups.specs.declared.group.Group.{Group}
+use Rattle.cyl_groups.specs.Group.{record_of}
+use Rattle.fsck_core.specs.declared.claims.Claims.{Claims}
+use Rattle.fsck_core.specs.Bits.{block_bit_among, has_other_bit}
+use Rattle.fsck_core.specs.Claimed.{HasClaimed}
+use Rattle.fsck_core.specs.Tables.{AreGroups, AreInodes}
+use Rattle.fsck_core.proofs.ClaimBridges.{bit_of_claims}
+use Rattle.fsck_core.proofs.RecordSteps.{record_in, used_in}
+
+-- an inode, and a block from the first group on, lies in a group
+pub group_of_inode : (g : Geometry) (i : ℕ) → IsGeometry g → i < inodes_of g → i / g.ipg < g.groups
+group_of_inode g i ok inside = (div-lt_iff_lt-mul {k = g.ipg} (omega (arith, ok.ipg_low))).1 inside
+
+pub group_of_block : (g : Geometry) (b : ℕ) → IsGeometry g → group_start g 0 ≤ b → b < blocks_of g → (b - group_start g 0) / g.bpg < g.groups
+group_of_block g b ok low inside =
+    let below : b - group_start g 0 < g.groups * g.bpg = omega (arith, low, inside) in
+    (div-lt_iff_lt-mul {k = g.bpg} (omega (arith, ok.bpg_low))).1 below
+
+-- the bits of an inode and of a block, in the record of the group
+pub inode_bit_in : (g : Geometry) (blocks : Blocks) (groups : List Group) (i : ℕ) (x : Group) → AreGroups g blocks groups → length groups ≡ g.groups
+    → slice_get groups (i / g.ipg) ≡ Some x → bit_at x.inode_bits (i % g.ipg) ≡ inode_bit g (reading_of g blocks) i
+inode_bit_in g blocks groups i x so size here =
+    sym (ap (λ (o : Option GroupRecord). option_map_or (λ group. bit_at group.inode_bits (i % g.ipg)) o false) (record_in g blocks groups (i / g.ipg) x so size here))
+
+pub block_bit_in : (g : Geometry) (blocks : Blocks) (groups : List Group) (b : ℕ) → AreGroups g blocks groups → length groups ≡ g.groups
+    → (b - group_start g 0) / g.bpg < g.groups → block_bit_among g groups b ≡ block_bit g (reading_of g blocks) b
+block_bit_in g blocks groups b so size within =
+    let at = b - group_start g 0 in
+    elim (slice_get_cases groups (at / g.bpg)).1 [
+      | inl here ↦
+          ap (λ (o : Option Group). option_map_or (λ x. bit_at x.block_bits (at % g.bpg)) o false) here.2
+          ∙ sym (ap (λ (o : Option GroupRecord). option_map_or (λ group. bit_at group.block_bits (at % g.bpg)) o false) (record_in g blocks groups (at / g.bpg) here.0 so size here.2))
+      | inr past ↦ absurd (omega (arith, past.0, size, within))
+    ]
+
+-- whether two tests give different answers
+apart : (p q : Bool) → not (beq p q) ≡ differ p q
+apart true true = refl
+apart true false = refl
+apart false true = refl
+apart false false = refl
+
+or_nothing : (p : Bool) → (p || false) ≡ p
+or_nothing true = refl
+or_nothing false = refl
+
+used_of_map : (blocks : Blocks) (d : Option Dinode) → is_some (option_map (used_inode blocks) d) ≡ is_some d
+used_of_map blocks None = refl
+used_of_map blocks (Some u) = refl
+
+-- the test of an inode's bit, where its number is not 0 or 1
+pub bad_inode_bit : (g : Geometry) (blocks : Blocks) (inodes : List (Option Dinode)) (i : ℕ) (d : Option Dinode) (bit used : Bool) → AreInodes g blocks inodes
+    → i < inodes_of g → slice_get inodes i ≡ Some d → 2 ≤ i → bit ≡ inode_bit g (reading_of g blocks) i → used ≡ is_some d
+    → not (beq bit used) ≡ has_bad_inode_bit g (reading_of g blocks) [] i
+bad_inode_bit g blocks inodes i d bit used so inside here high is_bit is_used =
+    let r = reading_of g blocks in
+    let known : used ≡ is_some (used_at r i) =
+    is_used ∙ sym (used_of_map blocks d) ∙ sym (ap (λ (o : Option UsedInode). is_some o) (used_in g blocks inodes i d so inside here)) in
+    apart bit used ∙ ap (λ (p : Bool). differ p used) is_bit ∙ ap (differ (inode_bit g r i)) (known ∙ sym (or_nothing (is_some (used_at r i))))
+    ∙ ap (λ (t : Bool). t && differ (inode_bit g r i) (is_some (used_at r i) || false)) (sym (le-leb 2 i high))
+
+pub other_bit : (g : Geometry) (groups : List Group) (claims : Claims) (b : ℕ) (bit claimed : Bool) → is_body g b ≡ true → bit ≡ block_bit_among g groups b
+    → claimed ≡ bit_at claims.bits.items b → not (beq bit claimed) ≡ has_other_bit g groups claims b
+unfolding has_other_bit
+other_bit g groups claims b bit claimed body is_bit is_claimed =
+    apart bit claimed ∙ ap (λ (p : Bool). differ p claimed) is_bit ∙ ap (differ (block_bit_among g groups b)) is_claimed
+    ∙ ap (λ (t : Bool). t && differ (block_bit_among g groups b) (bit_at claims.bits.items b)) (sym body)
+
+pub no_other_bit : (g : Geometry) (groups : List Group) (claims : Claims) (b : ℕ) → is_body g b ≡ false → false ≡ has_other_bit g groups claims b
+unfolding has_other_bit
+no_other_bit g groups claims b no_body = ap (λ (t : Bool). t && differ (block_bit_among g groups b) (bit_at claims.bits.items b)) (sym no_body)
+
+from_first_group : (g : Geometry) (b : ℕ) → IsGeometry g → is_body g b ≡ true → group_start g 0 ≤ b
+from_first_group g b ok body = elim (cases_lt b (group_start g 0)) [
+  | inl before ↦ absurd (true≢false (sym body ∙ none_before g ok b before))
+  | inr past ↦ past
+]
+
+-- the test of the bit of a block, by what a check keeps
+pub bad_block_bit : (g : Geometry) (blocks : Blocks) (groups : List Group) (claims : Claims) (b : ℕ) → IsGeometry g → AreGroups g blocks groups → length groups ≡ g.groups
+    → HasClaimed (blocks_of g) (map (λ claim. claim.block) (claims_of (reading_of g blocks))) claims → b < blocks_of g
+    → has_bad_block_bit g (reading_of g blocks) [] b ≡ has_other_bit g groups claims b
+unfolding has_other_bit
+bad_block_bit g blocks groups claims b ok so size has inside =
+    let r = reading_of g blocks in
+    elim (cases_Bool (is_body g b)) [
+      | inl body ↦
+          let bit = block_bit_in g blocks groups b so size (group_of_block g b ok (from_first_group g b ok body) inside) in
+          let claimed = bit_of_claims r (blocks_of g) b claims has inside in
+          ap (λ (t : Bool). is_body g b && differ (block_bit g r b) t) (or_nothing (is_claimed r b) ∙ sym claimed)
+          ∙ ap (λ (t : Bool). is_body g b && differ t (bit_at claims.bits.items b)) (sym bit)
+      | inr no_body ↦
+          ap (λ (t : Bool). t && differ (block_bit g r b) (is_claimed r b || false)) no_body
+          ∙ sym (ap (λ (t : Bool). t && differ (block_bit_among g groups b) (bit_at claims.bits.items b)) no_body)
+    ]
+
+-- the test of a group's counts
+pub bad_count_in : (g : Geometry) (blocks : Blocks) (groups : List Group) (n : ℕ) (x : Group) → AreGroups g blocks groups → length groups ≡ g.groups
+    → slice_get groups n ≡ Some x → not (has_right_counts g (record_of x)) ≡ has_bad_count g (reading_of g blocks) n
+bad_count_in g blocks groups n x so size here =
+    sym (ap (λ (o : Option GroupRecord). option_map_or (λ group. not (has_right_counts g group)) o false) (record_in g blocks groups n x so size here))
+
+-- the clear bits, counted over the numbers of the bits
+pub clear_over_range : (bits : List ℕ) (n : ℕ) → count_by (λ i. not (bit_at bits i)) (range_with_len 0 n) ≡ clear_bits bits n
+clear_over_range bits n = sum_of_range (λ i. one_if (not (bit_at bits i))) n ∙ sym (clear_counted bits n)
+
+counted_alike : {X : Type 0} (p q : X → Bool) (xs : List X) → ((x : X) → p x ≡ q x) → count_by p xs ≡ count_by q xs
+counted_alike p q [] same = refl
+counted_alike p q (x ∷ xs) same =
+    sum_by-cons (λ y. cond (p y) 1 0) x xs ∙ ap (λ (t : Bool). cond t 1 0 + count_by p xs) (same x)
+    ∙ ap (λ (n : ℕ). cond (q x) 1 0 + n) (counted_alike p q xs same) ∙ sym (sum_by-cons (λ y. cond (q y) 1 0) x xs)
+
+used_state : (blocks : Blocks) (d : Option Dinode) → is_some (used_of (state_of blocks (Some d))) ≡ is_some d
+used_state blocks None = refl
+used_state blocks (Some u) = refl
+
+-- the inodes in use, counted over their records
+pub used_counted : (g : Geometry) (blocks : Blocks) (inodes : List (Option Dinode)) → AreInodes g blocks inodes → length inodes ≡ inodes_of g
+    → count_by (λ d. is_some d) inodes ≡ count_by (λ state. is_some (used_of state)) (reading_of g blocks).inodes
+unfolding reading_of
+used_counted g blocks inodes so size =
+    let of_record : Option (Option Dinode) → ℕ = λ o. cond (is_some (used_of (state_of blocks o))) 1 0 in
+    sym (counted_alike (λ d. is_some (used_of (state_of blocks (Some d)))) (λ d. is_some d) inodes (used_state blocks))
+    ∙ sym (sum_of_map of_record (λ d. Some d) inodes)
+    ∙ sym (ap (sum_by of_record) so.records)
+    ∙ ap (λ (n : ℕ). sum_by of_record (map (inode_at g blocks) (range_with_len 0 n))) size
+    ∙ sum_of_map of_record (inode_at g blocks) (range_with_len 0 (inodes_of g))
+    ∙ sym (sum_of_map (λ state. cond (is_some (used_of state)) 1 0) (state_at g blocks) (range_with_len 0 (inodes_of g)))
+
+-- the counts of a reading
+pub counts_are : (g : Geometry) (r : Reading) (inodes blocks free : ℕ) → inodes ≡ count_by (λ state. is_some (used_of state)) r.inodes
+    → blocks ≡ length (claims_of r) → free ≡ body_blocks_of g - blocks → record { inodes = inodes; blocks = blocks; free = free } ≡ counts_of g r
+counts_are g r inodes blocks free of_inodes of_blocks of_free =
+    let Made : ℕ → ℕ → ℕ → Counts = λ a b c. record { inodes = a; blocks = b; free = c } in
+    let claims = length (claims_of r) in
+    ap (λ (a : ℕ). Made a blocks free) of_inodes ∙ ap (λ (b : ℕ). Made (count_by (λ state. is_some (used_of state)) r.inodes) b free) of_blocks
+    ∙ ap (λ (c : ℕ). Made (count_by (λ state. is_some (used_of state)) r.inodes) claims c) (of_free ∙ ap (λ (b : ℕ). body_blocks_of g - b) of_blocks)

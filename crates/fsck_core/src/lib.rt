@@ -1,0 +1,23 @@
+//! The check of a volume: whether it is sound, and else the first rule that it breaks (`docs/FORMAT.md`, "What
+//! sound means").
+#![tactic(auto)]
+
+mod bits;
+mod claims;
+mod directory;
+mod fields;
+mod names;
+mod numbers;
+mod parents;
+mod records;
+mod slots;
+mod stop;
+mod survey;
+mod types;
+mod verdict;
+mod window;
+
+pub use verdict::check;
+
+#[cfg(test)]
+mod tests;

@@ -1,0 +1,107 @@
+// The records of the groups and of the inodes.
+ghost use Rattle.std.specs.Prelude.{◌≡◌, ◌<◌, [], length, Some, None, IfSome, IfOk, IsErrOf, option_map};
+ghost use Rattle.volume_model.specs.Format.{block, inodes_of};
+ghost use Rattle.volume_model.specs.declared.finding.Kind.TheVariants.{Group as of_groups};
+ghost use Rattle.volume_model.specs.Sound.{reading_of, group_at, inode_at, first_of_kind};
+ghost use Rattle.sector_disk.specs.Disk.{CountsFailure, FailsJustAt};
+ghost use Rattle.cyl_groups.specs.Group.{record_of};
+ghost use Rattle.meta_store.specs.Store.{IsUnchanged};
+ghost use Rattle.fsck_core.specs.Tables.{AreGroups, AreInodes, AreOfBlock, allowed};
+ghost use Rattle.fsck_core.specs.Answers.{IsPartOf};
+ghost use Rattle.meta_store.specs.declared.error.StoreError.TheVariants.{Disk};
+ghost use Rattle.fsck_core.specs.declared.stop.Stop.TheVariants.{Failed};
+
+use crate::stop::Stop;
+use crate::window::Window;
+use cyl_groups::{Group, read_group};
+use inode_table::read_dinode;
+use lufs_base::{BLOCK, DiskFault, Ino};
+use meta_store::MetaRead;
+use std::alloc::Global;
+use volume_model::{Dinode, Kind};
+
+// The record of group n, if there is one.
+fn group_record<S: MetaRead>(store: &mut S, n: u32) -> Result<Option<Group>, DiskFault>
+    requires { n < (S.store store.old).geometry.groups }
+    ensures value { IfSome (S.store store.old).content (λ image. IfOk result (λ found. option_map record_of found ≡ group_at (S.store store.old).geometry (block image) n)) }
+    ensures unchanged { IsUnchanged (S.store store.old) (S.store store.new) }
+    ensures failure { CountsFailure result (S.store store.old).disk (S.store store.new).disk }
+{
+    let g = *store.geometry();
+    let mut bytes = [0; BLOCK];
+    store.block(g.group_block(n), &mut bytes)?;
+    Ok(read_group(&g, n, &bytes[..416]).ok())
+}
+
+/// The record of each group.
+pub(crate) fn read_groups<S: MetaRead>(alloc: Global, store: &mut S) -> Result<Vec<Group>, Stop>
+    ensures part { IsPartOf (S.store store.old) (λ g blocks groups. AreGroups g blocks groups.items) result }
+    ensures size { IfOk result (λ groups. length groups.items ≡ (S.store store.old).geometry.groups) }
+    ensures unchanged { IsUnchanged (S.store store.old) (S.store store.new) }
+    ensures failure { FailsJustAt (IsErrOf result (Failed Disk)) (S.store store.old).disk (S.store store.new).disk }
+{
+    let g = *store.geometry();
+    let mut groups = Vec::with_capacity(alloc, g.groups as usize)?;
+    for n in 0..g.groups {
+        match group_record(store, n)? {
+            Some(group) => groups.push(group)?,
+            None => return Err(Stop::Found(Kind::Group, n)),
+        }
+    }
+    Ok(groups)
+}
+
+// What the record of inode i says, if it is one.
+fn inode_record<S: MetaRead>(
+    store: &mut S,
+    window: &mut Window,
+    i: u32,
+) -> Result<Option<Option<Dinode>>, DiskFault>
+    requires inside { i < inodes_of (S.store store.old).geometry }
+    requires held { AreOfBlock (S.store store.old).content window.old.number window.old.bytes }
+    ensures value { IfSome (S.store store.old).content (λ image. IfOk result (λ found. found ≡ inode_at (S.store store.old).geometry (block image) i)) }
+    ensures held { AreOfBlock (S.store store.old).content window.new.number window.new.bytes }
+    ensures unchanged { IsUnchanged (S.store store.old) (S.store store.new) }
+    ensures failure { CountsFailure result (S.store store.old).disk (S.store store.new).disk }
+{
+    let g = *store.geometry();
+    let place = g.inode_place(Ino(i));
+    window.show(store, (place / BLOCK as u64) as u32)?;
+    let at = (place % BLOCK as u64) as usize;
+    Ok(read_dinode(g.version, &window.bytes[at..at + 128]).ok())
+}
+
+// What the record of inode i says, where it may say so: the inodes 0 and 1 are never in use.
+fn allowed(i: u32, found: Option<Option<Dinode>>) -> Option<Option<Dinode>>
+    ensures { result ≡ allowed i found }
+{
+    match found {
+        Some(Some(_)) if i < 2 => None,
+        _ => found,
+    }
+}
+
+/// The record of each inode, None of one that isn't in use. The inodes 0 and 1 never are.
+pub(crate) fn read_inodes<S: MetaRead>(
+    alloc: Global,
+    store: &mut S,
+) -> Result<Vec<Option<Dinode>>, Stop>
+    requires groups { IfSome (S.store store.old).content (λ image.
+        first_of_kind (S.store store.old).geometry (reading_of (S.store store.old).geometry (block image)) [] of_groups ≡ None) }
+    ensures part { IsPartOf (S.store store.old) (λ g blocks inodes. AreInodes g blocks inodes.items) result }
+    ensures size { IfOk result (λ inodes. length inodes.items ≡ inodes_of (S.store store.old).geometry) }
+    ensures unchanged { IsUnchanged (S.store store.old) (S.store store.new) }
+    ensures failure { FailsJustAt (IsErrOf result (Failed Disk)) (S.store store.old).disk (S.store store.new).disk }
+{
+    let g = *store.geometry();
+    let count = g.groups * g.ipg;
+    let mut inodes = Vec::with_capacity(alloc, count as usize)?;
+    let mut window = Window::new();
+    for i in 0..count {
+        match allowed(i, inode_record(store, &mut window, i)?) {
+            Some(inode) => inodes.push(inode)?,
+            None => return Err(Stop::Found(Kind::Inode, i)),
+        }
+    }
+    Ok(inodes)
+}

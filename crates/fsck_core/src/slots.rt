@@ -1,0 +1,61 @@
+// What the slots of one directory say.
+ghost use Rattle.std.specs.Prelude.{◌≡◌, IfOk, not, ◌&&◌};
+ghost use Rattle.volume_model.specs.Sound.{begins_right, has_twice};
+ghost use Rattle.fsck_core.specs.Slots.{used_slots, is_used_among, unused_named};
+
+use lufs_base::Mem;
+use std::alloc::Global;
+use std::collections::BTreeSet;
+use volume_model::{Dinode, Slot};
+
+// The first two slots are the directory itself, in 12 bytes, and the one above it.
+pub(crate) fn begins_right(i: u32, slots: &[Slot]) -> bool
+    ensures { result ≡ begins_right i slots.now }
+{
+    match slots {
+        [this, above, ..] => {
+            this.name.as_slice() == b".".as_slice()
+                && this.len == 12
+                && this.ino == i
+                && above.name.as_slice() == b"..".as_slice()
+        }
+        _ => false,
+    }
+}
+
+// Two slots in use have one name.
+pub(crate) fn has_twice(alloc: Global, slots: &[Slot]) -> Result<bool, Mem>
+    ensures { IfOk result (λ twice. twice ≡ has_twice (used_slots slots.now)) }
+{
+    let mut names = BTreeSet::new(alloc);
+    for slot in slots {
+        if slot.ino != 0 && !names.insert(slot.name.as_slice())? {
+            return Ok(true);
+        }
+    }
+    Ok(false)
+}
+
+// An inode of this number is in use.
+fn is_used(inodes: &[Option<Dinode>], i: u32) -> bool
+    ensures { result ≡ is_used_among inodes.now i }
+{
+    matches!(inodes.get(i as usize), Some(Some(_)))
+}
+
+// A slot in use names an inode that isn't.
+pub(crate) fn names_unused(inodes: &[Option<Dinode>], slots: &[Slot]) -> bool
+    ensures { result ≡ unused_named inodes.now slots.now }
+{
+    slots
+        .iter()
+        .filter(|slot| slot.ino != 0)
+        .any(|slot| !is_used(inodes, slot.ino))
+}
+
+// The slots begin as they should, and have no name twice.
+pub(crate) fn are_right(alloc: Global, i: u32, slots: &[Slot]) -> Result<bool, Mem>
+    ensures { IfOk result (λ right. right ≡ (begins_right i slots.now && not (has_twice (used_slots slots.now)))) }
+{
+    Ok(begins_right(i, slots) && !has_twice(alloc, slots)?)
+}
