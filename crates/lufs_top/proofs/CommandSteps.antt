@@ -11,10 +11,9 @@ use Rattle.host_io.specs.Outside.{Outside, Holdings, disk_of, after_ask, with_di
 use Rattle.host_io.specs.Places.{lent as lent_place}
 use Rattle.host_io.proofs.NamedLemmas.{with_place-name}
 use Rattle.lufs_top.specs.declared.ending.Ending.{Ending}
-use Rattle.lufs_top.specs.Words.{Command, scan, mkfs}
-use Rattle.lufs_top.specs.Borrowed.{IsLent, IsMade}
-use Rattle.lufs_top.specs.Scan.{ScanRan, not_lent, read}
-use Rattle.lufs_top.specs.Mkfs.{MkfsRan, out_of_range, no_memory, not_made, worked}
+use Rattle.lufs_top.specs.Words.{Command, scan, check, mkfs}
+use Rattle.lufs_top.specs.Borrowed.{IsLent, IsMade, HasRead, not_lent, read}
+use Rattle.lufs_top.specs.Mkfs.{out_of_range, no_memory, not_made, worked}
 use Rattle.lufs_top.specs.Run.{Ran}
 
 pub lent_and_back : (name : List ℕ) (before now : DiskTold) (old lent new : Outside) → (IsSome old.holds → disk_of old name ≡ Some before)
@@ -60,10 +59,14 @@ made_keeps name now o = elim o.holds as (λ h. option_map (λ (h : Holdings). h.
 moved : (old new at : Outside) → new ≡ at → SameSinks old at → SameSinks old new
 moved old new at is same = ap (λ (o : Outside). option_map (λ (h : Holdings). h.sinks) o.holds) is ∙ same
 
+reading_keeps : (volume : List ℕ) (IsEnding : DiskTold → Ending → Type 0) (ending : Ending) (old new : Outside) → HasRead volume IsEnding ending old new → SameSinks old new
+reading_keeps volume IsEnding ending old new (not_lent error refused lent) = moved old new _ lent.after (refused_keeps volume error old)
+reading_keeps volume IsEnding ending old new (read before now lent unwritten fails is) = moved old new _ lent.back (lent_keeps volume now old)
+
 pub command_keeps : (command : Option Command) (ending : Ending) (old new : Outside) → Ran command ending old new → SameSinks old new
 command_keeps None ending old new r = moved old new old r.1 refl
-command_keeps (Some (scan volume)) ending old new (not_lent error refused lent) = moved old new _ lent.after (refused_keeps volume error old)
-command_keeps (Some (scan volume)) ending old new (read before now lent unwritten fails is) = moved old new _ lent.back (lent_keeps volume now old)
+command_keeps (Some (scan volume)) ending old new r = reading_keeps volume _ ending old new r
+command_keeps (Some (check volume)) ending old new r = reading_keeps volume _ ending old new r
 command_keeps (Some (mkfs volume numbers)) ending old new (out_of_range bad range is same) = moved old new old same refl
 command_keeps (Some (mkfs volume numbers)) ending old new (no_memory range is same) = moved old new old same refl
 command_keeps (Some (mkfs volume numbers)) ending old new (not_made error range refused made) = moved old new _ made.after (not_made_keeps volume error old)

@@ -1,6 +1,6 @@
 -- What was found of a volume, where the disk tells its content.
-use Rattle.std.proofs.Common.{◌≡◌, List, Option, Some, None, Result, Ok, Err, ◌∙◌, ap, sym}
-use Rattle.std.specs.Prelude.{IfSome, IfOk, option_and_then, string_bytes}
+use Rattle.std.proofs.Common.{◌≡◌, List, Option, Some, None, Err, ◌∙◌, ap}
+use Rattle.std.specs.Prelude.{IfSome, IfOk, option_and_then}
 use Rattle.lufs_base.specs.declared.geometry.Geometry.{Geometry}
 use Rattle.volume_model.specs.Format.{Image, geometry_of}
 use Rattle.volume_model.specs.declared.log.Header.{Header}

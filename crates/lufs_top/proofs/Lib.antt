@@ -4,7 +4,9 @@ pub mod Content
 pub mod PutTexts
 pub mod CommandSteps
 pub mod ScanSteps
+pub mod CheckSteps
 pub mod MkfsSteps
 pub mod OutsideFacts
 pub mod RunClauses
 pub mod RunCauses
+pub mod RunVerdict

@@ -1,5 +1,5 @@
 -- How `mkfs` works on a disk that its host lends or makes.
-use Rattle.std.proofs.Common.{◌≡◌, ◌<◌, ℕ, ◌*◌, ◌^◌, List, Option, Some, None, ◌⊎◌, inl, inr, refl, sym, ◌∙◌, ap, subst}
+use Rattle.std.proofs.Common.{◌≡◌, ◌<◌, ℕ, ◌*◌, ◌^◌, List, Some, None, ◌⊎◌, inl, inr, refl, ◌∙◌, subst}
 use Rattle.std.specs.Prelude.{Err, IsSome, IfSome, IsErrOf}
 use Rattle.lufs_base.specs.Layout.{blocks_of}
 use Rattle.lufs_base.specs.declared.geometry.Geometry.{Geometry}
@@ -12,8 +12,8 @@ use Rattle.host_io.specs.Outside.{Outside, disk_of, after_ask, with_disk, Starts
 use Rattle.new_volume.specs.declared.make.MkfsError.{MkfsError}
 use Rattle.new_volume.specs.declared.make.MkfsError.TheVariants as errors
 use Rattle.lufs_top.specs.declared.ending.Ending.{Ending}
-use Rattle.lufs_top.specs.declared.ending.Ending.TheVariants.{Usage, Missing, DiskFault, NoMemory, Scan, Mkfs}
-use Rattle.lufs_top.specs.declared.mkfs.MkfsEnding.TheVariants.{Made, Refused}
+use Rattle.lufs_top.specs.declared.ending.Ending.TheVariants.{DiskFault, NoMemory, Mkfs}
+use Rattle.lufs_top.specs.declared.mkfs.MkfsEnding.TheVariants.{Refused}
 use Rattle.lufs_top.specs.declared.numbers.VolumeNumbers.{VolumeNumbers}
 use Rattle.lufs_top.specs.Borrowed.{IsMade}
 use Rattle.lufs_top.specs.Ending.{IsDiskFault}

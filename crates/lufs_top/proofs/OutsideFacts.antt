@@ -1,15 +1,12 @@
 -- What the calls of a host leave of what it tells.
-use Rattle.std.proofs.Common.{◌≡◌, ◌≢◌, ◌≤◌, ℕ, ◌+◌, ◌-◌, ◌^◌, Bool, true, false, cond, List, [], ◌∷◌, ◌++◌, Option, Some, None, refl, sym, ◌∙◌, ap, subst, arith}
-use Rattle.std.specs.Prelude.{IsSome, is_some, min, option_map, option_and_then, bytes_eq}
+use Rattle.std.proofs.Common.{◌≡◌, ◌≢◌, ℕ, false, List, Option, Some, None, refl, sym, ◌∙◌, ap, subst, arith}
+use Rattle.std.specs.Prelude.{IsSome, is_some, option_map, option_and_then, bytes_eq}
 use Rattle.std.proofs.lemmas.Bool.{cond-true, cond-false, false_from_ne_true}
 use Rattle.std.proofs.lemmas.Slice.Eq.{bytes_eq-Decides}
-use Rattle.std.proofs.lemmas.List.{append-nil}
-use Rattle.lufs_base.specs.Causes.{counted, Rose}
+use Rattle.lufs_base.specs.Causes.{counted}
 use Rattle.sector_disk.specs.Disk.{DiskTold}
-use Rattle.host_io.specs.declared.host.Ask.{Ask}
 use Rattle.host_io.specs.declared.host.AskKind.{AskKind}
 use Rattle.host_io.specs.declared.host.AskKind.TheVariants.{TakeDisk, MakeDisk, TakeSink}
-use Rattle.host_io.specs.declared.host.AskAnswer.{AskAnswer}
 use Rattle.host_io.specs.declared.host.AskAnswer.TheVariants as answers
 use Rattle.host_io.specs.declared.host.HostError.{HostError}
 use Rattle.host_io.specs.declared.host.HostError.TheVariants as hosts

@@ -1,9 +1,14 @@
 -- Texts that are put one after the other.
-use Rattle.std.proofs.Common.{◌≡◌, ℕ, ◌+◌, ◌≤◌, List, [], ◌∷◌, ◌++◌, length, take, Option, Some, None, Result, Ok, Err, refl, sym, ◌∙◌, ap, subst, arith, append_assoc}
-use Rattle.std.specs.Prelude.{min, option_map, IsErr}
+use Rattle.std.proofs.Common.{◌≡◌, ℕ, ◌+◌, List, [], ◌∷◌, ◌++◌, length, take, Option, Some, None, Result, Ok, Err, refl, sym, ◌∙◌, ap, subst, arith, append_assoc}
+use Rattle.std.specs.Prelude.{min, option_map, IsErr, codes}
 use Rattle.std.proofs.Math.Seq.{take-append-add}
 use Rattle.std.proofs.lemmas.List.{take-append-le, take_min}
+use Rattle.std.specs.Fmt.{decimal}
 use Rattle.lufs_base.specs.Causes.{counted}
+use Rattle.volume_model.specs.declared.finding.Counts.{Counts}
+use Rattle.volume_model.specs.declared.finding.Kind.{Kind}
+use Rattle.volume_model.specs.declared.finding.Verdict.TheVariants.{Clean, Finding}
+use Rattle.volume_model.specs.Texts.{field, verdict_text, word_of}
 use Rattle.host_io.specs.Outside.{SinkTold, Puts}
 use Rattle.lufs_top.specs.Ending.{line_of}
 
@@ -57,3 +62,22 @@ line_in_three words name number =
     append_assoc (words ++ 32 ∷ []) (name ++ 32 ∷ []) (number ++ 10 ∷ [])
     ∙ append_assoc words (32 ∷ []) ((name ++ 32 ∷ []) ++ (number ++ 10 ∷ []))
     ∙ ap (λ (l : List ℕ). words ++ (32 ∷ l)) (append_assoc name (32 ∷ []) (number ++ 10 ∷ []) ∙ sym (append_assoc name (32 ∷ number) (10 ∷ [])))
+
+-- words, a blank and a number
+pub field_in_two : (words : List ℕ) (number : ℕ) → (words ++ 32 ∷ []) ++ decimal number ≡ field words number
+field_in_two words number = append_assoc words (32 ∷ []) (decimal number)
+
+-- the line of a sound volume: the counts, and the end of the line
+pub counts_in_four : (counts : Counts)
+    → ((field (codes "clean inodes") counts.inodes ++ field (codes " blocks") counts.blocks) ++ field (codes " free") counts.free) ++ 10 ∷ [] ≡ verdict_text (Clean counts)
+unfolding verdict_text
+counts_in_four counts =
+    let inodes = field (codes "clean inodes") counts.inodes in
+    let blocks = field (codes " blocks") counts.blocks in
+    let free = field (codes " free") counts.free in
+    append_assoc (inodes ++ blocks) free (10 ∷ []) ∙ append_assoc inodes blocks (free ++ 10 ∷ [])
+
+-- the line of a finding
+pub finding_line : (kind : Kind) (number : ℕ) → line_of (codes "unsound") (word_of kind ++ (32 ∷ decimal number)) ≡ verdict_text (Finding kind number)
+unfolding verdict_text
+finding_line kind number = refl

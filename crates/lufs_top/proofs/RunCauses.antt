@@ -1,41 +1,49 @@
 -- What a run gives back, and the cause of each failure that its status tells.
-use Rattle.std.proofs.Common.{◌≡◌, ◌≢◌, ◌<◌, ◌≤◌, ◌⊎◌, inl, inr, ℕ, Bool, true, false, List, [], ◌∷◌, Option, Some, None, refl, sym, ◌∙◌, ap, subst, arith}
-use Rattle.std.specs.Prelude.{IsSome, IfSome, IsSomeAnd, is_some}
-use Rattle.lufs_base.specs.Causes.{counted, Rose}
-use Rattle.sector_disk.specs.Disk.{DiskTold, IsZeroDisk, FailedLast}
+use Rattle.std.proofs.Common.{◌≡◌, ◌≢◌, ◌<◌, ◌⊎◌, inl, inr, ℕ, List, Option, Some, None, refl, sym, ◌∙◌, ap, subst, arith}
+use Rattle.std.specs.Prelude.{IsSome, IsSomeAnd, is_some}
+use Rattle.lufs_base.specs.Causes.{Rose}
+use Rattle.sector_disk.specs.Disk.{DiskTold, IsZeroDisk}
 use Rattle.host_io.specs.declared.host.AskKind.TheVariants.{TakeDisk, MakeDisk, TakeSink}
 use Rattle.host_io.specs.declared.host.AskAnswer.TheVariants as answers
 use Rattle.host_io.specs.declared.host.HostError.{HostError}
 use Rattle.host_io.specs.declared.host.HostError.TheVariants as hosts
-use Rattle.host_io.specs.Outside.{Outside, Holdings, SinkTold, disk_of, sink_of, after_ask, refused_with, StartsAs}
+use Rattle.host_io.specs.Outside.{Outside, Holdings, SinkTold, disk_of, after_ask, refused_with, StartsAs}
 use Rattle.lufs_top.specs.declared.ending.Ending.{Ending}
-use Rattle.lufs_top.specs.declared.ending.Ending.TheVariants.{Usage, Missing, DiskFault, NoMemory, Scan, Mkfs}
+use Rattle.lufs_top.specs.declared.ending.Ending.TheVariants.{Usage, Missing, DiskFault, NoMemory, Scan, Check, Mkfs}
 use Rattle.lufs_top.specs.declared.scan.ScanEnding.TheVariants.{Listed, NotVolume, BadHeader, BadRun}
+use Rattle.lufs_top.specs.declared.check.CheckEnding.TheVariants as checks
+use Rattle.volume_model.specs.declared.finding.Verdict.TheVariants.{Clean, Finding}
 use Rattle.lufs_top.specs.declared.mkfs.MkfsEnding.TheVariants.{Made, Refused}
-use Rattle.lufs_top.specs.Words.{Command, scan, mkfs, standard_output}
+use Rattle.lufs_top.specs.Words.{Command, scan, check, mkfs, standard_output}
 use Rattle.lufs_top.specs.Ending.{status_of, IsRefusal, IsDiskFault}
 use Rattle.lufs_base.specs.declared.geometry.Geometry.{Geometry}
-use Rattle.lufs_top.specs.Scan.{ScanRan, not_lent, read, IsScanEnding}
-use Rattle.lufs_top.specs.Mkfs.{MkfsRan, out_of_range, no_memory, not_made, worked, IsMkfsEnding}
+use Rattle.lufs_top.specs.Borrowed.{HasRead, not_lent, read}
+use Rattle.lufs_top.specs.Scan.{IsScanEnding}
+use Rattle.lufs_top.specs.Check.{IsCheckEnding}
+use Rattle.lufs_top.specs.Mkfs.{out_of_range, no_memory, not_made, worked, IsMkfsEnding}
 use Rattle.lufs_top.specs.Run.{Ran, Runs, no_output, ran, Says, whole, cut, status_if_cut, status_without_output, volume_of, IsBack, DiskFaultRose, HasCauses}
 use Rattle.lufs_top.proofs.RunClauses.{run_keeps}
-use Rattle.lufs_top.proofs.OutsideFacts.{disk_in, Keeps, keeps_itself, refused_keeps, disk_back_keeps, sink_back_keeps, sink_given_keeps, sink_there, disk_there}
+use Rattle.lufs_top.proofs.OutsideFacts.{disk_in, Keeps, refused_keeps, disk_back_keeps, sink_back_keeps, sink_given_keeps, sink_there, disk_there}
 
 abbrev Any : List ℕ → Type 0
 Any q = Unit {0}
 
 -- a disk is told only where the host tells what it holds
-tells_of_disk : (holds : Option Holdings) (o : Outside) (name : List ℕ) → o.holds ≡ holds → IsSome (disk_of o name) → IsSome o.holds
+pub tells_of_disk : (holds : Option Holdings) (o : Outside) (name : List ℕ) → o.holds ≡ holds → IsSome (disk_of o name) → IsSome o.holds
 tells_of_disk None o name is there = absurd (cc (ap (λ h. is_some h) is, there, ap (λ (h : Option Holdings). is_some (disk_in h name)) is))
 tells_of_disk (Some h) o name is there = ap (λ (h : Option Holdings). is_some h) is
 
-command_back : (command : Option Command) (ending : Ending) (old new : Outside) → Ran command ending old new → IsBack (volume_of command) old new
-command_back None ending old new went = tt
-command_back (Some (scan volume)) ending old new (not_lent error is lent) = λ there.
+reading_back : (volume : List ℕ) (IsEnding : DiskTold → Ending → Type 0) (ending : Ending) (old new : Outside) → HasRead volume IsEnding ending old new → IsBack (Some volume) old new
+reading_back volume IsEnding ending old new (not_lent error is lent) = λ there.
     ap is_some ((refused_keeps TakeDisk volume error Any Any old new lent.after).disks volume tt) ∙ there
-command_back (Some (scan volume)) ending old new (read before now lent unwritten fails is) = λ there.
+reading_back volume IsEnding ending old new (read before now lent unwritten fails is) = λ there.
     let tells = (disk_back_keeps TakeDisk (λ p. cc) volume now Any old new lent.back).tells ∙ tells_of_disk old.holds old volume refl there in
     ap is_some (disk_there volume now _ new lent.back tells)
+
+command_back : (command : Option Command) (ending : Ending) (old new : Outside) → Ran command ending old new → IsBack (volume_of command) old new
+command_back None ending old new went = tt
+command_back (Some (scan volume)) ending old new went = reading_back volume _ ending old new went
+command_back (Some (check volume)) ending old new went = reading_back volume _ ending old new went
 command_back (Some (mkfs volume numbers)) ending old new (out_of_range bad range is same) = λ there. ap (λ (o : Outside). is_some (disk_of o volume)) same ∙ there
 command_back (Some (mkfs volume numbers)) ending old new (no_memory range is same) = λ there. ap (λ (o : Outside). is_some (disk_of o volume)) same ∙ there
 command_back (Some (mkfs volume numbers)) ending old new (not_made error range is made) = λ there.
@@ -74,6 +82,11 @@ only_missing (Scan volume (Listed text)) is = absurd (elim is [ inl one ↦ omeg
 only_missing (Scan volume NotVolume) is = absurd (elim is [ inl one ↦ omega (arith, one) | inr one ↦ omega (arith, one) ])
 only_missing (Scan volume BadHeader) is = absurd (elim is [ inl one ↦ omega (arith, one) | inr one ↦ omega (arith, one) ])
 only_missing (Scan volume (BadRun tid place)) is = absurd (elim is [ inl one ↦ omega (arith, one) | inr one ↦ omega (arith, one) ])
+only_missing (Check volume (checks.Checked (Clean counts))) is = absurd (elim is [ inl one ↦ omega (arith, one) | inr one ↦ omega (arith, one) ])
+only_missing (Check volume (checks.Checked (Finding kind number))) is = absurd (elim is [ inl one ↦ omega (arith, one) | inr one ↦ omega (arith, one) ])
+only_missing (Check volume checks.NotVolume) is = absurd (elim is [ inl one ↦ omega (arith, one) | inr one ↦ omega (arith, one) ])
+only_missing (Check volume checks.BadHeader) is = absurd (elim is [ inl one ↦ omega (arith, one) | inr one ↦ omega (arith, one) ])
+only_missing (Check volume (checks.BadRun tid place)) is = absurd (elim is [ inl one ↦ omega (arith, one) | inr one ↦ omega (arith, one) ])
 only_missing (Mkfs (Made text)) is = absurd (elim is [ inl one ↦ omega (arith, one) | inr one ↦ omega (arith, one) ])
 only_missing (Mkfs (Refused bad)) is = absurd (elim is [ inl one ↦ omega (arith, one) | inr one ↦ omega (arith, one) ])
 
@@ -86,6 +99,11 @@ only_fault (Scan volume (Listed text)) is = absurd (elim is [ inl one ↦ omega 
 only_fault (Scan volume NotVolume) is = absurd (elim is [ inl one ↦ omega (arith, one) | inr one ↦ omega (arith, one) ])
 only_fault (Scan volume BadHeader) is = absurd (elim is [ inl one ↦ omega (arith, one) | inr one ↦ omega (arith, one) ])
 only_fault (Scan volume (BadRun tid place)) is = absurd (elim is [ inl one ↦ omega (arith, one) | inr one ↦ omega (arith, one) ])
+only_fault (Check volume (checks.Checked (Clean counts))) is = absurd (elim is [ inl one ↦ omega (arith, one) | inr one ↦ omega (arith, one) ])
+only_fault (Check volume (checks.Checked (Finding kind number))) is = absurd (elim is [ inl one ↦ omega (arith, one) | inr one ↦ omega (arith, one) ])
+only_fault (Check volume checks.NotVolume) is = absurd (elim is [ inl one ↦ omega (arith, one) | inr one ↦ omega (arith, one) ])
+only_fault (Check volume checks.BadHeader) is = absurd (elim is [ inl one ↦ omega (arith, one) | inr one ↦ omega (arith, one) ])
+only_fault (Check volume (checks.BadRun tid place)) is = absurd (elim is [ inl one ↦ omega (arith, one) | inr one ↦ omega (arith, one) ])
 only_fault (Mkfs (Made text)) is = absurd (elim is [ inl one ↦ omega (arith, one) | inr one ↦ omega (arith, one) ])
 only_fault (Mkfs (Refused bad)) is = absurd (elim is [ inl one ↦ omega (arith, one) | inr one ↦ omega (arith, one) ])
 
@@ -98,6 +116,11 @@ no_reply_status (Scan volume (Listed text)) one = omega (arith, one)
 no_reply_status (Scan volume NotVolume) one = omega (arith, one)
 no_reply_status (Scan volume BadHeader) one = omega (arith, one)
 no_reply_status (Scan volume (BadRun tid place)) one = omega (arith, one)
+no_reply_status (Check volume (checks.Checked (Clean counts))) one = omega (arith, one)
+no_reply_status (Check volume (checks.Checked (Finding kind number))) one = omega (arith, one)
+no_reply_status (Check volume checks.NotVolume) one = omega (arith, one)
+no_reply_status (Check volume checks.BadHeader) one = omega (arith, one)
+no_reply_status (Check volume (checks.BadRun tid place)) one = omega (arith, one)
 no_reply_status (Mkfs (Made text)) one = omega (arith, one)
 no_reply_status (Mkfs (Refused bad)) one = omega (arith, one)
 
@@ -124,6 +147,10 @@ no_scan_misses : (ending : Ending) (volume : List ℕ) (told : DiskTold) → IsS
 no_scan_misses (Missing at) volume told is missing = is
 no_scan_misses ending volume told is missing = missing
 
+no_check_misses : (ending : Ending) (volume : List ℕ) (told : DiskTold) → IsCheckEnding volume told ending → IsMissing ending → ⊥
+no_check_misses (Missing at) volume told is missing = is
+no_check_misses ending volume told is missing = missing
+
 no_work_misses : (ending : Ending) (volume : List ℕ) (g : Geometry) (moment : ℕ) (before now : DiskTold) → IsMkfsEnding volume g moment ending before now → IsMissing ending → ⊥
 no_work_misses (Missing at) volume g moment before now is missing = is
 no_work_misses ending volume g moment before now is missing = missing
@@ -132,6 +159,8 @@ command_missing : (command : Option Command) (ending : Ending) (old new : Outsid
 command_missing None ending old new went missing = absurd (subst IsMissing went.0 missing)
 command_missing (Some (scan volume)) ending old new (not_lent error is lent) missing = missing_counted error volume ending old new is missing lent.after
 command_missing (Some (scan volume)) ending old new (read before now lent unwritten fails is) missing = absurd (no_scan_misses ending volume before is missing)
+command_missing (Some (check volume)) ending old new (not_lent error is lent) missing = missing_counted error volume ending old new is missing lent.after
+command_missing (Some (check volume)) ending old new (read before now lent unwritten fails is) missing = absurd (no_check_misses ending volume before is missing)
 command_missing (Some (mkfs volume numbers)) ending old new (out_of_range bad range is same) missing = absurd (subst IsMissing is missing)
 command_missing (Some (mkfs volume numbers)) ending old new (no_memory range is same) missing = absurd (subst IsMissing is missing)
 command_missing (Some (mkfs volume numbers)) ending old new (not_made error range is made) missing = absurd (missing_not_made error volume ending made.not_missing is missing)
@@ -152,12 +181,16 @@ made_rises (Some was) new sectors before now starts is rose = rw is (subst (λ (
 abbrev FaultRose : Option (List ℕ) → Outside → Outside → Type 0
 FaultRose volume old new = IsSome old.holds → Rose old.faults new.faults ⊎ IsSomeAnd volume (λ name. DiskFaultRose (disk_of old name) (disk_of new name))
 
-command_fault : (command : Option Command) (ending : Ending) (old new : Outside) → Ran command ending old new → IsDiskFault ending → FaultRose (volume_of command) old new
-command_fault None ending old new went fault tells = absurd (subst IsDiskFault went.0 fault)
-command_fault (Some (scan volume)) ending old new (not_lent error is lent) fault tells = inl (failure_counted error volume ending old is fault new.faults (ap (λ (o : Outside). o.faults) lent.after))
-command_fault (Some (scan volume)) ending old new (read before now lent unwritten fails is) fault tells =
+reading_fault : (volume : List ℕ) (IsEnding : DiskTold → Ending → Type 0) (ending : Ending) (old new : Outside) → HasRead volume IsEnding ending old new → IsDiskFault ending → FaultRose (Some volume) old new
+reading_fault volume IsEnding ending old new (not_lent error is lent) fault tells = inl (failure_counted error volume ending old is fault new.faults (ap (λ (o : Outside). o.faults) lent.after))
+reading_fault volume IsEnding ending old new (read before now lent unwritten fails is) fault tells =
     let still = (disk_back_keeps TakeDisk (λ p. cc) volume now Any old new lent.back).tells ∙ tells in
     inr (lent_rises _ _ before now (lent.given tells) (disk_there volume now _ new lent.back still) (fails.failed fault).faults)
+
+command_fault : (command : Option Command) (ending : Ending) (old new : Outside) → Ran command ending old new → IsDiskFault ending → FaultRose (volume_of command) old new
+command_fault None ending old new went fault tells = absurd (subst IsDiskFault went.0 fault)
+command_fault (Some (scan volume)) ending old new went fault tells = reading_fault volume _ ending old new went fault tells
+command_fault (Some (check volume)) ending old new went fault tells = reading_fault volume _ ending old new went fault tells
 command_fault (Some (mkfs volume numbers)) ending old new (out_of_range bad range is same) fault tells = absurd (subst IsDiskFault is fault)
 command_fault (Some (mkfs volume numbers)) ending old new (no_memory range is same) fault tells = absurd (subst IsDiskFault is fault)
 command_fault (Some (mkfs volume numbers)) ending old new (not_made error range is made) fault tells = inl (make_counted error volume ending old is fault new.faults (ap (λ (o : Outside). o.faults) made.after))
@@ -178,7 +211,7 @@ same_name None old lent done new first last rose = rose
 same_name (Some name) old lent done new first last rose = rw (← first.disks name tt, last.disks name tt) rose
 
 -- how the status of a run tells its ending
-of_status : (ending : Ending) (status n : ℕ) (out said : SinkTold) → Says ending status out said → status ≡ n → (status_of ending ≡ n) ⊎ (status_if_cut (status_of ending) ≡ n)
+pub of_status : (ending : Ending) (status n : ℕ) (out said : SinkTold) → Says ending status out said → status ≡ n → (status_of ending ≡ n) ⊎ (status_if_cut (status_of ending) ≡ n)
 of_status ending status n out said (whole is put) one = inl (sym is ∙ one)
 of_status ending status n out said (cut k is put) one = inr (sym is ∙ one)
 

@@ -1,59 +1,70 @@
 -- What follows for the outside from how a run went.
-use Rattle.std.proofs.Common.{◌≡◌, ◌≢◌, ◌<◌, ◌≤◌, ◌⊎◌, inl, inr, ℕ, List, [], ◌∷◌, ◌++◌, Option, Some, None, refl, sym, ◌∙◌, ap, subst, arith, append_assoc}
+use Rattle.std.proofs.Common.{◌≡◌, ◌≢◌, ◌⊎◌, inl, inr, ℕ, List, [], ◌∷◌, ◌++◌, Option, Some, None, refl, sym, ◌∙◌, ap, subst, arith, append_assoc}
 use Rattle.std.proofs.lemmas.List.{append-nil}
-use Rattle.std.specs.Prelude.{Contains, IsSome, IfSome, IsSomeAnd, is_some, option_map}
-use Rattle.lufs_base.specs.Causes.{counted, Rose}
-use Rattle.sector_disk.specs.Disk.{DiskTold, IsZeroDisk}
+use Rattle.std.specs.Prelude.{Contains, option_map}
+use Rattle.sector_disk.specs.Disk.{DiskTold}
 use Rattle.host_io.specs.declared.host.Ask.{Ask}
 use Rattle.host_io.specs.declared.host.AskKind.{AskKind}
 use Rattle.host_io.specs.declared.host.AskKind.TheVariants.{TakeDisk, MakeDisk, TakeSink}
 use Rattle.host_io.specs.declared.host.AskAnswer.TheVariants as answers
 use Rattle.host_io.specs.declared.host.HostError.{HostError}
 use Rattle.host_io.specs.declared.host.HostError.TheVariants as hosts
-use Rattle.host_io.specs.Outside.{Outside, Holdings, SinkTold, disk_of, sink_of, after_ask, refused_with, with_disk, with_sink, with_ask, StartsAs, empty_sink}
+use Rattle.host_io.specs.Outside.{Outside, after_ask, refused_with, with_ask}
 use Rattle.lufs_top.specs.declared.ending.Ending.{Ending}
-use Rattle.lufs_top.specs.declared.ending.Ending.TheVariants.{Usage, Missing, DiskFault, NoMemory, Scan, Mkfs}
+use Rattle.lufs_top.specs.declared.ending.Ending.TheVariants.{Usage, Missing, DiskFault, NoMemory, Scan, Check, Mkfs}
 use Rattle.lufs_top.specs.declared.scan.ScanEnding.TheVariants.{Listed, NotVolume, BadHeader, BadRun}
+use Rattle.lufs_top.specs.declared.check.CheckEnding.TheVariants as checks
+use Rattle.volume_model.specs.declared.finding.Verdict.TheVariants.{Clean, Finding}
 use Rattle.lufs_top.specs.declared.mkfs.MkfsEnding.TheVariants.{Made, Refused}
-use Rattle.lufs_top.specs.Words.{Command, scan, mkfs, standard_output}
-use Rattle.lufs_top.specs.Ending.{status_of, IsRefusal, IsDiskFault}
-use Rattle.lufs_top.specs.Scan.{ScanRan, not_lent, read}
-use Rattle.lufs_top.specs.Mkfs.{MkfsRan, out_of_range, no_memory, not_made, worked}
-use Rattle.lufs_top.specs.Run.{Ran, Runs, no_output, ran, Says, whole, cut, status_if_cut, status_without_output, volume_of, asked_by, AreFirstOf, AsksInOrder, KeepsOthers, IsBack, DiskFaultRose, HasCauses, IsNoLower}
-use Rattle.lufs_top.proofs.OutsideFacts.{Keeps, keeps_both, keeps_itself, refused_keeps, disk_back_keeps, sink_back_keeps, sink_given_keeps, sink_there, disk_there}
+use Rattle.lufs_top.specs.Words.{Command, scan, check, mkfs, standard_output}
+use Rattle.lufs_top.specs.Ending.{status_of, IsRefusal}
+use Rattle.lufs_top.specs.Borrowed.{HasRead, not_lent, read}
+use Rattle.lufs_top.specs.Mkfs.{out_of_range, no_memory, not_made, worked}
+use Rattle.lufs_top.specs.Run.{Ran, Runs, no_output, ran, Says, whole, cut, status_if_cut, status_without_output, volume_of, asked_by, AsksInOrder, KeepsOthers}
+use Rattle.lufs_top.proofs.OutsideFacts.{Keeps, keeps_both, keeps_itself, refused_keeps, disk_back_keeps, sink_back_keeps, sink_given_keeps}
 
 -- the statuses that there are
 abbrev pub statuses : List ℕ
-statuses = 0 ∷ 1 ∷ 2 ∷ 4 ∷ 5 ∷ 6 ∷ 10 ∷ 11 ∷ 12 ∷ []
+statuses = 0 ∷ 1 ∷ 2 ∷ 4 ∷ 5 ∷ 6 ∷ 7 ∷ 10 ∷ 11 ∷ 12 ∷ []
 
 status_listed : (ending : Ending) → Contains statuses (status_of ending)
 status_listed Usage = (1, omega arith, refl)
 status_listed (Missing name) = (2, omega arith, refl)
 status_listed (DiskFault name) = (3, omega arith, refl)
-status_listed NoMemory = (8, omega arith, refl)
+status_listed NoMemory = (9, omega arith, refl)
 status_listed (Scan volume (Listed text)) = (0, omega arith, refl)
 status_listed (Scan volume NotVolume) = (5, omega arith, refl)
-status_listed (Scan volume BadHeader) = (7, omega arith, refl)
-status_listed (Scan volume (BadRun tid place)) = (7, omega arith, refl)
+status_listed (Scan volume BadHeader) = (8, omega arith, refl)
+status_listed (Scan volume (BadRun tid place)) = (8, omega arith, refl)
+status_listed (Check volume (checks.Checked (Clean counts))) = (0, omega arith, refl)
+status_listed (Check volume (checks.Checked (Finding kind number))) = (6, omega arith, refl)
+status_listed (Check volume checks.NotVolume) = (5, omega arith, refl)
+status_listed (Check volume checks.BadHeader) = (8, omega arith, refl)
+status_listed (Check volume (checks.BadRun tid place)) = (8, omega arith, refl)
 status_listed (Mkfs (Made text)) = (0, omega arith, refl)
-status_listed (Mkfs (Refused bad)) = (6, omega arith, refl)
+status_listed (Mkfs (Refused bad)) = (7, omega arith, refl)
 
 cut_listed : (ending : Ending) → Contains statuses (status_if_cut (status_of ending))
 cut_listed Usage = (1, omega arith, refl)
 cut_listed (Missing name) = (2, omega arith, refl)
 cut_listed (DiskFault name) = (3, omega arith, refl)
-cut_listed NoMemory = (8, omega arith, refl)
+cut_listed NoMemory = (9, omega arith, refl)
 cut_listed (Scan volume (Listed text)) = (4, omega arith, refl)
 cut_listed (Scan volume NotVolume) = (5, omega arith, refl)
-cut_listed (Scan volume BadHeader) = (7, omega arith, refl)
-cut_listed (Scan volume (BadRun tid place)) = (7, omega arith, refl)
+cut_listed (Scan volume BadHeader) = (8, omega arith, refl)
+cut_listed (Scan volume (BadRun tid place)) = (8, omega arith, refl)
+cut_listed (Check volume (checks.Checked (Clean counts))) = (4, omega arith, refl)
+cut_listed (Check volume (checks.Checked (Finding kind number))) = (6, omega arith, refl)
+cut_listed (Check volume checks.NotVolume) = (5, omega arith, refl)
+cut_listed (Check volume checks.BadHeader) = (8, omega arith, refl)
+cut_listed (Check volume (checks.BadRun tid place)) = (8, omega arith, refl)
 cut_listed (Mkfs (Made text)) = (4, omega arith, refl)
-cut_listed (Mkfs (Refused bad)) = (6, omega arith, refl)
+cut_listed (Mkfs (Refused bad)) = (7, omega arith, refl)
 
 without_listed : (error : HostError) → Contains statuses (status_without_output error)
 without_listed hosts.Missing = (4, omega arith, refl)
 without_listed hosts.Failed = (4, omega arith, refl)
-without_listed hosts.Mem = (8, omega arith, refl)
+without_listed hosts.Mem = (9, omega arith, refl)
 
 listed_as : (s status : ℕ) → status ≡ s → Contains statuses s → Contains statuses status
 listed_as s status is there = subst (λ (n : ℕ). Contains statuses n) (sym is) there
@@ -73,6 +84,11 @@ only_usage (Scan volume (Listed text)) is = absurd (elim is [ inl one ↦ omega 
 only_usage (Scan volume NotVolume) is = absurd (elim is [ inl one ↦ omega (arith, one) | inr one ↦ omega (arith, one) ])
 only_usage (Scan volume BadHeader) is = absurd (elim is [ inl one ↦ omega (arith, one) | inr one ↦ omega (arith, one) ])
 only_usage (Scan volume (BadRun tid place)) is = absurd (elim is [ inl one ↦ omega (arith, one) | inr one ↦ omega (arith, one) ])
+only_usage (Check volume (checks.Checked (Clean counts))) is = absurd (elim is [ inl one ↦ omega (arith, one) | inr one ↦ omega (arith, one) ])
+only_usage (Check volume (checks.Checked (Finding kind number))) is = absurd (elim is [ inl one ↦ omega (arith, one) | inr one ↦ omega (arith, one) ])
+only_usage (Check volume checks.NotVolume) is = absurd (elim is [ inl one ↦ omega (arith, one) | inr one ↦ omega (arith, one) ])
+only_usage (Check volume checks.BadHeader) is = absurd (elim is [ inl one ↦ omega (arith, one) | inr one ↦ omega (arith, one) ])
+only_usage (Check volume (checks.BadRun tid place)) is = absurd (elim is [ inl one ↦ omega (arith, one) | inr one ↦ omega (arith, one) ])
 only_usage (Mkfs (Made text)) is = absurd (elim is [ inl one ↦ omega (arith, one) | inr one ↦ omega (arith, one) ])
 only_usage (Mkfs (Refused bad)) is = absurd (elim is [ inl one ↦ omega (arith, one) | inr one ↦ omega (arith, one) ])
 
@@ -85,6 +101,8 @@ usage_is_no_command : (command : Option Command) (old new : Outside) → Ran com
 usage_is_no_command None old new went = refl
 usage_is_no_command (Some (scan volume)) old new (not_lent error is lent) = absurd (refused_not_usage error volume is)
 usage_is_no_command (Some (scan volume)) old new (read before now lent unwritten fails is) = absurd is
+usage_is_no_command (Some (check volume)) old new (not_lent error is lent) = absurd (refused_not_usage error volume is)
+usage_is_no_command (Some (check volume)) old new (read before now lent unwritten fails is) = absurd is
 usage_is_no_command (Some (mkfs volume numbers)) old new (out_of_range bad range is same) = absurd (cc (is))
 usage_is_no_command (Some (mkfs volume numbers)) old new (no_memory range is same) = absurd (cc (is))
 usage_is_no_command (Some (mkfs volume numbers)) old new (not_made error range is made) = absurd (refused_not_usage error volume is)
@@ -129,11 +147,15 @@ refused_asks kind name hosts.Missing old new is = (record { kind = kind; name = 
 refused_asks kind name hosts.Failed old new is = (record { kind = kind; name = name; answer = answers.Failed } ∷ [], (refl, refl, inl refl, tt), ap (λ (o : Outside). o.asks) is)
 refused_asks kind name hosts.Mem old new is = ([], tt, ap (λ (o : Outside). o.asks) is ∙ none_added old.asks)
 
+reading_asks : (volume : List ℕ) (IsEnding : DiskTold → Ending → Type 0) (ending : Ending) (old new : Outside) → HasRead volume IsEnding ending old new → AsksInOrder ((TakeDisk, volume) ∷ []) old new
+reading_asks volume IsEnding ending old new (not_lent error is lent) = refused_asks TakeDisk volume error old new lent.after
+reading_asks volume IsEnding ending old new (read before now lent unwritten fails is) =
+    (record { kind = TakeDisk; name = volume; answer = answers.Given } ∷ [], (refl, refl, inl refl, tt), ap (λ (o : Outside). o.asks) lent.back)
+
 command_asks : (command : Option Command) (ending : Ending) (old new : Outside) → Ran command ending old new → AsksInOrder (asked_by command) old new
 command_asks None ending old new went = ([], tt, ap (λ (o : Outside). o.asks) went.1 ∙ none_added old.asks)
-command_asks (Some (scan volume)) ending old new (not_lent error is lent) = refused_asks TakeDisk volume error old new lent.after
-command_asks (Some (scan volume)) ending old new (read before now lent unwritten fails is) =
-    (record { kind = TakeDisk; name = volume; answer = answers.Given } ∷ [], (refl, refl, inl refl, tt), ap (λ (o : Outside). o.asks) lent.back)
+command_asks (Some (scan volume)) ending old new went = reading_asks volume _ ending old new went
+command_asks (Some (check volume)) ending old new went = reading_asks volume _ ending old new went
 command_asks (Some (mkfs volume numbers)) ending old new (out_of_range bad range is same) = ([], tt, ap (λ (o : Outside). o.asks) same ∙ none_added old.asks)
 command_asks (Some (mkfs volume numbers)) ending old new (no_memory range is same) = ([], tt, ap (λ (o : Outside). o.asks) same ∙ none_added old.asks)
 command_asks (Some (mkfs volume numbers)) ending old new (not_made error range is made) = refused_asks MakeDisk volume error old new made.after
@@ -156,10 +178,14 @@ fewer P Q S old new to keeps = record { moment = keeps.moment; tells = keeps.tel
 unnamed : (volume q : List ℕ) → Some volume ≢ Some q → q ≢ volume
 unnamed volume q other same = other (ap (λ (n : List ℕ). Some n) (sym same))
 
+reading_keeps_others : (volume : List ℕ) (IsEnding : DiskTold → Ending → Type 0) (ending : Ending) (S : List ℕ → Type 0) (old new : Outside) → HasRead volume IsEnding ending old new → Keeps (λ q. Some volume ≢ Some q) S old new
+reading_keeps_others volume IsEnding ending S old new (not_lent error is lent) = refused_keeps TakeDisk volume error _ S old new lent.after
+reading_keeps_others volume IsEnding ending S old new (read before now lent unwritten fails is) = fewer (λ q. q ≢ volume) _ S old new (unnamed volume) (disk_back_keeps TakeDisk (λ p. cc) volume now S old new lent.back)
+
 command_keeps_others : (command : Option Command) (ending : Ending) (S : List ℕ → Type 0) (old new : Outside) → Ran command ending old new → Keeps (λ q. volume_of command ≢ Some q) S old new
 command_keeps_others None ending S old new went = keeps_itself _ S old new went.1
-command_keeps_others (Some (scan volume)) ending S old new (not_lent error is lent) = refused_keeps TakeDisk volume error _ S old new lent.after
-command_keeps_others (Some (scan volume)) ending S old new (read before now lent unwritten fails is) = fewer (λ q. q ≢ volume) _ S old new (unnamed volume) (disk_back_keeps TakeDisk (λ p. cc) volume now S old new lent.back)
+command_keeps_others (Some (scan volume)) ending S old new went = reading_keeps_others volume _ ending S old new went
+command_keeps_others (Some (check volume)) ending S old new went = reading_keeps_others volume _ ending S old new went
 command_keeps_others (Some (mkfs volume numbers)) ending S old new (out_of_range bad range is same) = keeps_itself _ S old new same
 command_keeps_others (Some (mkfs volume numbers)) ending S old new (no_memory range is same) = keeps_itself _ S old new same
 command_keeps_others (Some (mkfs volume numbers)) ending S old new (not_made error range is made) = refused_keeps MakeDisk volume error _ S old new made.after

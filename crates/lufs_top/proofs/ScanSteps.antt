@@ -1,12 +1,12 @@
 -- How a scan that stopped ends.
-use Rattle.std.proofs.Common.{◌≡◌, ℕ, List, Result, Ok, Err, refl, ap}
+use Rattle.std.proofs.Common.{ℕ, List, Err, refl}
 use Rattle.std.specs.Prelude.{IsErrOf}
 use Rattle.sector_disk.specs.Disk.{DiskTold, FailsJustAt}
 use Rattle.lufs_top.specs.declared.scan.ScanEnding.{ScanEnding}
 use Rattle.lufs_top.specs.declared.scan.Stop.{Stop}
 use Rattle.lufs_top.specs.declared.scan.Stop.TheVariants as stops
 use Rattle.lufs_top.specs.declared.ending.Ending.{Ending}
-use Rattle.lufs_top.specs.declared.ending.Ending.TheVariants.{Usage, Missing, DiskFault, NoMemory, Scan, Mkfs}
+use Rattle.lufs_top.specs.declared.ending.Ending.TheVariants.{DiskFault, NoMemory}
 use Rattle.lufs_top.specs.Ending.{IsDiskFault}
 use Rattle.lufs_top.specs.Scan.{IsStopped, IsScanEnding}
 use Rattle.lufs_top.proofs.CommandSteps.{none_fails, last_fails}

@@ -1,13 +1,17 @@
 -- How a command ends: its status and its text.
 use Rattle.std.specs.Prelude.{◌≡◌, ℕ, List, [], ◌∷◌, ◌++◌, codes, string_bytes}
 use Rattle.std.specs.Fmt.{decimal}
+use Rattle.volume_model.specs.declared.finding.Verdict.TheVariants.{Clean, Finding}
+use Rattle.volume_model.specs.Texts.{verdict_text}
 use Rattle.host_io.specs.declared.host.HostError.{HostError}
 use Rattle.host_io.specs.declared.host.HostError.TheVariants as hosts
 use Rattle.lufs_top.specs.Numbers.{name_of_number}
 use Rattle.lufs_top.specs.declared.ending.Ending.{Ending}
-use Rattle.lufs_top.specs.declared.ending.Ending.TheVariants.{Usage, Missing, DiskFault, NoMemory, Scan, Mkfs}
+use Rattle.lufs_top.specs.declared.ending.Ending.TheVariants.{Usage, Missing, DiskFault, NoMemory, Scan, Check, Mkfs}
 use Rattle.lufs_top.specs.declared.scan.ScanEnding.{ScanEnding}
 use Rattle.lufs_top.specs.declared.scan.ScanEnding.TheVariants.{Listed, NotVolume, BadHeader, BadRun}
+use Rattle.lufs_top.specs.declared.check.CheckEnding.{CheckEnding}
+use Rattle.lufs_top.specs.declared.check.CheckEnding.TheVariants as checks
 use Rattle.lufs_top.specs.declared.mkfs.MkfsEnding.{MkfsEnding}
 use Rattle.lufs_top.specs.declared.mkfs.MkfsEnding.TheVariants.{Made, Refused}
 
@@ -16,6 +20,13 @@ scan_status (Listed text) = 0
 scan_status NotVolume = 6
 scan_status BadHeader = 11
 scan_status (BadRun tid place) = 11
+
+abbrev pub check_status : CheckEnding → ℕ
+check_status (checks.Checked (Clean counts)) = 0
+check_status (checks.Checked (Finding kind number)) = 7
+check_status checks.NotVolume = 6
+check_status checks.BadHeader = 11
+check_status (checks.BadRun tid place) = 11
 
 abbrev pub mkfs_status : MkfsEnding → ℕ
 mkfs_status (Made text) = 0
@@ -27,18 +38,30 @@ status_of (Missing name) = 2
 status_of (DiskFault name) = 4
 status_of NoMemory = 12
 status_of (Scan volume ended) = scan_status ended
+status_of (Check volume ended) = check_status ended
 status_of (Mkfs ended) = mkfs_status ended
 
 -- words and a name after them, as one line
 abbrev pub line_of : List ℕ → List ℕ → List ℕ
 line_of words name = words ++ (32 ∷ (name ++ 10 ∷ []))
 
--- what is printed of a volume of this name
+-- what is printed of a run of the log that breaks its rules
+abbrev pub bad_log_line : (tid place : ℕ) → List ℕ
+bad_log_line tid place = line_of (codes "bad log") (decimal tid ++ (32 ∷ decimal place))
+
+-- what a scan prints of the volume of this name
 abbrev pub scan_line : List ℕ → ScanEnding → List ℕ
 scan_line volume (Listed text) = string_bytes text
 scan_line volume NotVolume = line_of (codes "not a volume") volume
 scan_line volume BadHeader = codes "bad log header\n"
-scan_line volume (BadRun tid place) = line_of (codes "bad log") (decimal tid ++ (32 ∷ decimal place))
+scan_line volume (BadRun tid place) = bad_log_line tid place
+
+-- what a check prints of the volume of this name
+abbrev pub check_line : List ℕ → CheckEnding → List ℕ
+check_line volume (checks.Checked verdict) = verdict_text verdict
+check_line volume checks.NotVolume = line_of (codes "not a volume") volume
+check_line volume checks.BadHeader = codes "bad log header\n"
+check_line volume (checks.BadRun tid place) = bad_log_line tid place
 
 abbrev pub mkfs_line : MkfsEnding → List ℕ
 mkfs_line (Made text) = string_bytes text
@@ -51,6 +74,7 @@ text_of (Missing name) = line_of (codes "missing") name.now
 text_of (DiskFault name) = line_of (codes "disk fault") name.now
 text_of NoMemory = codes "no memory\n"
 text_of (Scan volume ended) = scan_line volume.now ended
+text_of (Check volume ended) = check_line volume.now ended
 text_of (Mkfs ended) = mkfs_line ended
 
 -- the ending tells of this error of the host, at this name

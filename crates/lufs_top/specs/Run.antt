@@ -1,6 +1,11 @@
 -- What a run does to the outside.
 use Rattle.std.specs.Prelude.{◌≡◌, ◌≢◌, ◌<◌, ◌≤◌, ◌⊎◌, ℕ, ◌^◌, ◌==◌, if◌then◌else◌, List, [], ◌∷◌, ◌++◌, take, Option, Some, None, IfSome, IsSome, IsSomeAnd, is_some, option_map}
 use Rattle.lufs_base.specs.Causes.{counted, Rose}
+use Rattle.volume_model.specs.declared.finding.Counts.{Counts}
+use Rattle.volume_model.specs.declared.finding.Kind.{Kind}
+use Rattle.volume_model.specs.declared.finding.Verdict.TheVariants.{Clean, Finding}
+use Rattle.volume_model.specs.Format.{Image}
+use Rattle.volume_model.specs.Texts.{verdict_of_image}
 use Rattle.sector_disk.specs.Disk.{DiskTold}
 use Rattle.host_io.specs.declared.host.HostError.{HostError}
 use Rattle.host_io.specs.declared.host.HostError.TheVariants as hosts
@@ -12,14 +17,16 @@ use Rattle.host_io.specs.Outside.{Outside, SinkTold, disk_of, sink_of, refused_w
 use Rattle.lufs_top.specs.declared.ending.Ending.{Ending}
 use Rattle.lufs_top.specs.declared.ending.Ending.TheVariants.{Usage}
 use Rattle.lufs_top.specs.Ending.{status_of, text_of}
-use Rattle.lufs_top.specs.Words.{Command, scan, mkfs, standard_output}
+use Rattle.lufs_top.specs.Words.{Command, scan, check, mkfs, standard_output}
 use Rattle.lufs_top.specs.Scan.{ScanRan}
+use Rattle.lufs_top.specs.Check.{CheckRan}
 use Rattle.lufs_top.specs.Mkfs.{MkfsRan}
 
 -- how a command ended, and what it did to the outside: a line a command
 abbrev pub Ran : Option Command → Ending → Outside → Outside → Type 0
 Ran None ending old new = (ending ≡ Usage) × (new ≡ old)
 Ran (Some (scan volume)) ending old new = ScanRan volume ending old new
+Ran (Some (check volume)) ending old new = CheckRan volume ending old new
 Ran (Some (mkfs volume numbers)) ending old new = MkfsRan volume numbers ending old new
 
 -- the status where a put failed: success is told as a fault of the reply
@@ -51,12 +58,14 @@ pub data Runs (command : Option Command) (status : ℕ) (old new : Outside) : Ty
 abbrev pub volume_of : Option Command → Option (List ℕ)
 volume_of None = None
 volume_of (Some (scan volume)) = Some volume
+volume_of (Some (check volume)) = Some volume
 volume_of (Some (mkfs volume numbers)) = Some volume
 
 -- what a command asks its host for after standard output
 abbrev pub asked_by : Option Command → List (AskKind × List ℕ)
 asked_by None = []
 asked_by (Some (scan volume)) = (TakeDisk, volume) ∷ []
+asked_by (Some (check volume)) = (TakeDisk, volume) ∷ []
 asked_by (Some (mkfs volume numbers)) = (MakeDisk, volume) ∷ []
 
 -- the asks are the first of these, in this order, and each but the last was given
@@ -97,3 +106,14 @@ pub record HasCauses (volume : Option (List ℕ)) (status : ℕ) (old new : Outs
   pub missing : status ≡ 2 → Rose old.absent new.absent
   pub disk_fault : status ≡ 4 → IsSome old.holds → Rose old.faults new.faults ⊎ IsSomeAnd volume (λ name. DiskFaultRose (disk_of old name) (disk_of new name))
   pub reply_fault : status ≡ 5 → IsSome old.holds → Rose old.faults new.faults ⊎ IsSomeAnd (sink_of new standard_output) (λ sink. 0 < sink.faults)
+
+-- The status of a check says whether the volume of this image is sound with its log replayed, or that there is none with a log to replay.
+pub record IsVerdictStatus (image : Image) (status : ℕ) : Type 0 where
+  pub sound : status ≡ 0 → (counts : Counts) × (verdict_of_image image ≡ Some (Clean counts))
+  pub unsound : status ≡ 7 → (kind : Kind) × (number : ℕ) × (verdict_of_image image ≡ Some (Finding kind number))
+  pub unread : (status ≡ 6) ⊎ (status ≡ 11) → verdict_of_image image ≡ None
+
+-- what the status of a check says is so, where the host tells what the disk holds
+abbrev pub TellsVerdict : Option Command → ℕ → Outside → Type 0
+TellsVerdict (Some (check volume)) status old = IfSome (disk_of old volume) (λ told. IfSome told.present (λ image. IsVerdictStatus image status))
+TellsVerdict command status old = Unit {0}

@@ -5,8 +5,7 @@ use Rattle.volume_model.specs.declared.log.Header.{Header}
 use Rattle.volume_model.specs.Format.{Image, geometry_of}
 use Rattle.volume_model.specs.Log.{NoHeader, Behind, BadRun as BadLogRun, log_of}
 use Rattle.volume_model.specs.Texts.{scan_text_of}
-use Rattle.sector_disk.specs.Disk.{DiskTold, IsUnwritten, FailsJustAt}
-use Rattle.host_io.specs.declared.host.HostError.{HostError}
+use Rattle.sector_disk.specs.Disk.{DiskTold}
 use Rattle.host_io.specs.Outside.{Outside}
 use Rattle.lufs_top.specs.declared.ending.Ending.{Ending}
 use Rattle.lufs_top.specs.declared.ending.Ending.TheVariants.{DiskFault, NoMemory, Scan}
@@ -16,8 +15,7 @@ use Rattle.log_scan.specs.declared.log.ScanError.{ScanError}
 use Rattle.log_scan.specs.declared.log.ScanError.TheVariants as scans
 use Rattle.lufs_top.specs.declared.scan.Stop.{Stop}
 use Rattle.lufs_top.specs.declared.scan.Stop.TheVariants as stops
-use Rattle.lufs_top.specs.Borrowed.{IsNotLent, IsLent}
-use Rattle.lufs_top.specs.Ending.{IsRefusal, IsDiskFault}
+use Rattle.lufs_top.specs.Borrowed.{HasRead}
 
 -- what was found is true of the image
 abbrev pub IsScanOf : Image → ScanEnding → Type 0
@@ -47,9 +45,5 @@ IsScanEnding volume told NoMemory = Unit {0}
 IsScanEnding volume told ending = ⊥
 
 -- How `scan` of the volume of this name ended, and what it did to the outside.
-pub data ScanRan (volume : List ℕ) (ending : Ending) (old new : Outside) : Type 0 where
-  -- the host gave no disk
-  not_lent : (error : HostError) → IsRefusal error volume ending → IsNotLent volume error old new → ScanRan volume ending old new
-  -- the disk was lent, read and not written; the ending is a disk fault just where one of its calls failed, the last one
-  read : (before now : DiskTold) → IsLent volume before now old new → IsUnwritten before now → FailsJustAt (IsDiskFault ending) before now
-      → IsScanEnding volume before ending → ScanRan volume ending old new
+abbrev pub ScanRan : (volume : List ℕ) → Ending → Outside → Outside → Type 0
+ScanRan volume ending old new = HasRead volume (IsScanEnding volume) ending old new

@@ -9,11 +9,13 @@ use Rattle.lufs_top.specs.declared.numbers.VolumeNumbers.{VolumeNumbers}
 -- what the words ask for, with the names and the numbers in them
 pub data Command : Type 0 where
   scan : (volume : List ℕ) → Command
+  check : (volume : List ℕ) → Command
   mkfs : (volume : List ℕ) → VolumeNumbers → Command
 
 -- the command that a value of the code is
 abbrev pub command_meant : SpokenCommand → Command
 command_meant (spoken.Scan volume) = scan volume.now
+command_meant (spoken.Check volume) = check volume.now
 command_meant (spoken.Mkfs volume numbers) = mkfs volume.now numbers
 
 -- the name of standard output, which names no volume
@@ -30,9 +32,14 @@ numbers_of groups bpg ipg log =
     option_and_then (λ n. option_and_then (λ b. option_and_then (λ i. option_map (λ l.
     record { groups = n; bpg = b; ipg = i; log = l }) (number_of log)) (number_of ipg)) (number_of bpg)) (number_of groups)
 
--- `scan VOL` and `mkfs VOL G BPG IPG L`
+-- the command of one name
+abbrev pub on_volume : (word name : List ℕ) → Option Command
+on_volume word name =
+    if names_volume (codes "scan") word name then Some (scan name) else if names_volume (codes "check") word name then Some (check name) else None
+
+-- `scan VOL`, `check VOL` and `mkfs VOL G BPG IPG L`
 abbrev pub command_in : List (List ℕ) → Option Command
-command_in (word ∷ name ∷ []) = if names_volume (codes "scan") word name then Some (scan name) else None
+command_in (word ∷ name ∷ []) = on_volume word name
 command_in (word ∷ name ∷ groups ∷ bpg ∷ ipg ∷ log ∷ []) =
     if names_volume (codes "mkfs") word name then option_map (mkfs name) (numbers_of groups bpg ipg log) else None
 command_in words = None

@@ -1,6 +1,7 @@
 ghost use Rattle.std.specs.Prelude.{◌≡◌};
 ghost use Rattle.lufs_top.specs.Ending.{status_of, IsRefusal};
 
+use crate::check::CheckEnding;
 use crate::mkfs::MkfsEnding;
 use crate::scan::ScanEnding;
 use host_io::HostError;
@@ -17,6 +18,7 @@ pub(crate) enum Ending<'a> {
     /// Memory ran out.
     NoMemory,
     Scan { volume: &'a str, ended: ScanEnding },
+    Check { volume: &'a str, ended: CheckEnding },
     Mkfs(MkfsEnding),
 }
 
@@ -42,6 +44,7 @@ impl<'a> Ending<'a> {
             Ending::DiskFault(_) => 4,
             Ending::NoMemory => 12,
             Ending::Scan { ended, .. } => ended.status(),
+            Ending::Check { ended, .. } => ended.status(),
             Ending::Mkfs(ended) => ended.status(),
         }
     }

@@ -1,6 +1,7 @@
 //! The top call of the program: `run`, over a host that stands for the outside.
 #![tactic(auto)]
 
+mod check;
 mod ending;
 mod mkfs;
 mod numbers;

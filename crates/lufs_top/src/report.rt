@@ -1,15 +1,19 @@
 ghost use Rattle.std.specs.Prelude.{◌≡◌, ◌∷◌, ◌++◌};
 ghost use Rattle.std.specs.Fmt.{decimal};
 ghost use Rattle.host_io.specs.Outside.{Puts};
-ghost use Rattle.lufs_top.specs.Ending.{line_of, text_of, scan_line, mkfs_line};
+ghost use Rattle.volume_model.specs.declared.finding.Verdict.TheVariants.{Clean};
+ghost use Rattle.volume_model.specs.Texts.{field, verdict_text};
+ghost use Rattle.lufs_top.specs.Ending.{line_of, text_of, bad_log_line, scan_line, check_line, mkfs_line};
 ghost use Rattle.lufs_top.specs.Run.{Says, status_if_cut};
 
+use crate::check::{CheckEnding, word_of};
 use crate::ending::Ending;
 use crate::mkfs::MkfsEnding;
 use crate::numbers::BadNumber;
 use crate::scan::ScanEnding;
 use host_io::{Sink, SinkFault};
 use itoa::Buffer;
+use volume_model::{Counts, Verdict};
 
 /// The status of a sink that failed, or that the host didn't give.
 pub(crate) const REPLY_FAULT: u8 = 5;
@@ -40,6 +44,23 @@ fn put_number<K: Sink>(out: &mut K, words: &[u8], name: &[u8], number: u64) -> R
     put_both(out, buffer.format(number).as_bytes(), b"\n")
 }
 
+// Puts words and a number after them.
+fn put_field<K: Sink>(out: &mut K, words: &[u8], number: u32) -> Result<(), SinkFault>
+    ensures { Puts (field words.now number) result (K.told out.old) (K.told out.new) }
+{
+    let mut buffer = Buffer::new();
+    put_both(out, words, b" ")?;
+    out.put(buffer.format(number).as_bytes())
+}
+
+fn put_bad_log<K: Sink>(out: &mut K, tid: u32, place: u32) -> Result<(), SinkFault>
+    ensures { Puts (bad_log_line tid place) result (K.told out.old) (K.told out.new) }
+{
+    let mut buffer = Buffer::new();
+    let tid = buffer.format(tid).as_bytes();
+    put_number(out, b"bad log", tid, u64::from(place))
+}
+
 fn put_scan<K: Sink>(out: &mut K, volume: &str, ended: &ScanEnding) -> Result<(), SinkFault>
     ensures { Puts (scan_line volume.now ended.now) result (K.told out.old) (K.told out.new) }
 {
@@ -47,11 +68,39 @@ fn put_scan<K: Sink>(out: &mut K, volume: &str, ended: &ScanEnding) -> Result<()
         ScanEnding::Listed(text) => out.put(text.as_bytes()),
         ScanEnding::NotVolume => put_line(out, b"not a volume", volume.as_bytes()),
         ScanEnding::BadHeader => out.put(b"bad log header\n"),
-        ScanEnding::BadRun { tid, place } => {
-            let mut buffer = Buffer::new();
-            let tid = buffer.format(*tid).as_bytes();
-            put_number(out, b"bad log", tid, u64::from(*place))
+        ScanEnding::BadRun { tid, place } => put_bad_log(out, *tid, *place),
+    }
+}
+
+fn put_counts<K: Sink>(out: &mut K, counts: &Counts) -> Result<(), SinkFault>
+    ensures { Puts (verdict_text (Clean counts.now)) result (K.told out.old) (K.told out.new) }
+{
+    put_field(out, b"clean inodes", counts.inodes)?;
+    put_field(out, b" blocks", counts.blocks)?;
+    put_field(out, b" free", counts.free)?;
+    out.put(b"\n")
+}
+
+fn put_verdict<K: Sink>(out: &mut K, verdict: &Verdict) -> Result<(), SinkFault>
+    ensures { Puts (verdict_text verdict.now) result (K.told out.old) (K.told out.new) }
+{
+    match verdict {
+        Verdict::Clean(counts) => put_counts(out, counts),
+        Verdict::Finding(kind, number) => {
+            let word = word_of(*kind).as_bytes();
+            put_number(out, b"unsound", word, u64::from(*number))
         }
+    }
+}
+
+fn put_check<K: Sink>(out: &mut K, volume: &str, ended: &CheckEnding) -> Result<(), SinkFault>
+    ensures { Puts (check_line volume.now ended.now) result (K.told out.old) (K.told out.new) }
+{
+    match ended {
+        CheckEnding::Checked(verdict) => put_verdict(out, verdict),
+        CheckEnding::NotVolume => put_line(out, b"not a volume", volume.as_bytes()),
+        CheckEnding::BadHeader => out.put(b"bad log header\n"),
+        CheckEnding::BadRun { tid, place } => put_bad_log(out, *tid, *place),
     }
 }
 
@@ -76,6 +125,7 @@ fn put_ending<K: Sink>(out: &mut K, ending: &Ending<'_>) -> Result<(), SinkFault
         Ending::DiskFault(name) => put_line(out, b"disk fault", name.as_bytes()),
         Ending::NoMemory => out.put(b"no memory\n"),
         Ending::Scan { volume, ended } => put_scan(out, volume, ended),
+        Ending::Check { volume, ended } => put_check(out, volume, ended),
         Ending::Mkfs(ended) => put_mkfs(out, ended),
     }
 }

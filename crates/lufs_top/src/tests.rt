@@ -1,13 +1,23 @@
 ghost use Rattle.std.specs.Prelude.{◌≡◌, ◌%◌, IfOk, length};
+ghost use Rattle.lufs_base.specs.Layout.{IsGeometry};
 
 use crate::run;
 use host_io::MemHost;
-use lufs_base::{Mem, put_u32};
+use lufs_base::{Geometry, Mem, put_u32};
+use new_volume::mkfs;
 use sector_disk::{Disk, Fail, MemDisk};
 use std::alloc::Global;
 
 /// A sector of the volume, a byte of it, and the word of 32 bits that is there.
 type Word = (usize, usize, u32);
+
+const SMALLEST: Geometry = Geometry {
+    version: 1,
+    groups: 1,
+    bpg: 64,
+    ipg: 32,
+    log: 256,
+};
 
 /// No word is changed: the reserved byte is 0 as it is.
 const SAME: Word = (16, 28, 0);
@@ -240,6 +250,35 @@ fn endless(alloc: Global) -> Result<Vec<u8>, Mem>
     Ok(image)
 }
 
+// The smallest volume as it is made.
+fn made(alloc: Global) -> Result<Vec<u8>, Mem>
+    ensures { IfOk result (λ image. length image.items % 512 ≡ 0) }
+{
+    let mut disk = MemDisk::new(volume(alloc, 792, &[], SAME)?, Vec::new(alloc));
+    if mkfs(alloc, &mut disk, &SMALLEST, 1000).is_err() {
+        return Err(Mem);
+    }
+    let image = disk.crash(alloc, disk.calls(), &[]).map_err(|_| Mem)?;
+    if image.len() % 512 != 0 {
+        return Err(Mem);
+    }
+    Ok(image)
+}
+
+// Logs the record of the group, as it stands, in transaction 1 of the volume as it is made.
+fn log_group(image: &mut [u8])
+    ensures { length image.new ≡ length image.old }
+{
+    if image.len() < 512 * 792 {
+        return;
+    }
+    image.copy_within(0x23000..0x23000 + 416, 512 * 25 + 16);
+    put_head(image, 0, 0x23000, 416, 1);
+    put_head(image, 16 + 416, 1, 1, 8);
+    put(image, (25, 504, 1));
+    put(image, (25, 508, 1));
+}
+
 // What `lufs` answers to these words.
 fn run_words(alloc: Global, host: &mut MemHost, words: &[&str]) -> Result<u8, Mem> {
     let mut said = Vec::new(alloc);
@@ -276,14 +315,17 @@ fn run_over(alloc: Global, words: &[&str], image: Vec<u8>, failing: Failing) -> 
 
 #[test]
 fn words_that_are_a_command(rt: HostRuntime) -> Result<(), std::test::Fail> {
-    let words: [(&[&str], u8, &str); 14] = [
+    let words: [(&[&str], u8, &str); 18] = [
         (&["scan", "S"], 0, ONE),
         (&[], 1, "usage\n"),
         (&["scan"], 1, "usage\n"),
         (&["scan", "S", "S"], 1, "usage\n"),
         (&["scan", "-"], 1, "usage\n"),
         (&["Scan", "S"], 1, "usage\n"),
-        (&["check", "S"], 1, "usage\n"),
+        (&["check", "S"], 7, "unsound group 0\n"),
+        (&["check"], 1, "usage\n"),
+        (&["check", "S", "S"], 1, "usage\n"),
+        (&["check", "-"], 1, "usage\n"),
         (&["S"], 1, "usage\n"),
         (&["mkfs", "S"], 1, "usage\n"),
         (&["mkfs", "S", "1", "64", "32"], 1, "usage\n"),
@@ -291,6 +333,7 @@ fn words_that_are_a_command(rt: HostRuntime) -> Result<(), std::test::Fail> {
         (&["mkfs", "-", "1", "64", "32", "256"], 1, "usage\n"),
         (&["scan", "T"], 2, "missing T\n"),
         (&["scan", ""], 2, "missing \n"),
+        (&["check", "T"], 2, "missing T\n"),
     ];
     for (words, status, text) in words {
         let left = run_over(
@@ -497,6 +540,17 @@ fn deltas_at_the_edges_of_their_rows(rt: HostRuntime) -> Result<(), std::test::F
     Ok(())
 }
 
+const CLEAN: &str = "clean inodes 1 blocks 1 free 61\n";
+
+/// The finding of the smallest volume where the bit of the root's block is clear.
+const ROOT_BLOCK: &str = "unsound blockbit 37\n";
+
+/// The block bits of the group of the smallest volume, with the bit of the root's block clear.
+const CLEAR_BIT: Word = (280, 160, 0x0300_0000);
+
+/// The same with the bit set, as the volume is made.
+const SET_BIT: Word = (280, 160, 0x0700_0000);
+
 const MADE: &str = "made blocks 99 inodes 30 free 61 ring 255\n";
 
 #[test]
@@ -509,6 +563,7 @@ fn volumes_that_are_made(rt: HostRuntime) -> Result<(), std::test::Fail> {
             0,
             "epoch 1 head 0 tid 1 ring 255\ncommitted 0 sectors 0\n",
         ),
+        (["check", "S"].as_slice(), 0, CLEAN),
         (
             ["mkfs", "T", "3", "72", "64", "264"].as_slice(),
             0,
@@ -518,6 +573,11 @@ fn volumes_that_are_made(rt: HostRuntime) -> Result<(), std::test::Fail> {
             ["scan", "T"].as_slice(),
             0,
             "epoch 1 head 0 tid 1 ring 263\ncommitted 0 sectors 0\n",
+        ),
+        (
+            ["check", "T"].as_slice(),
+            0,
+            "clean inodes 1 blocks 1 free 206\n",
         ),
         (
             ["mkfs", "U", "1", "60", "32", "256"].as_slice(),
@@ -661,6 +721,121 @@ fn calls_of_mkfs_that_fail(rt: HostRuntime) -> Result<(), std::test::Fail> {
         assert_eq!(rt; left.status, status, "{failing:?}");
         assert_eq!(rt; left.text.as_slice(), text.as_bytes(), "{failing:?}");
         assert_eq!(rt; (left.sectors, left.calls), (792, calls), "{failing:?}");
+    }
+    Ok(())
+}
+
+#[test]
+fn volumes_that_are_checked(rt: HostRuntime) -> Result<(), std::test::Fail> {
+    // The group's record is in sector 280, the root's from byte 256 of sector 288 on, its chunk in sector 296.
+    let volumes: [(&[Word], u8, &str); 17] = [
+        (&[], 0, CLEAN),
+        (&[(280, 0, 0)], 7, "unsound group 0\n"),
+        (&[(288, 128, 1)], 7, "unsound inode 1\n"),
+        (&[(288, 276, 511)], 7, "unsound fields 2\n"),
+        (&[(288, 256, 0x81a4_0002)], 7, "unsound root 2\n"),
+        (
+            &[(288, 276, 1024), (288, 348, 2), (288, 292, 37)],
+            7,
+            "unsound fields 2\n",
+        ),
+        (
+            &[(288, 276, 4608), (288, 348, 2), (288, 292, 37)],
+            7,
+            "unsound twice 37\n",
+        ),
+        (&[(296, 0, 3)], 7, "unsound chunk 2\n"),
+        (&[(296, 12, 3)], 7, "unsound name 2\n"),
+        (&[(288, 256, 0x41ed_0003)], 7, "unsound links 2\n"),
+        (&[(280, 32, 0x0300_0000)], 7, "unsound inodebit 2\n"),
+        (&[CLEAR_BIT], 7, ROOT_BLOCK),
+        (&[(280, 160, 0x0f00_0000)], 7, "unsound blockbit 38\n"),
+        (&[(280, 8, 30)], 7, "unsound count 0\n"),
+        (&[(16, 0, 0), CLEAR_BIT], 6, "not a volume S\n"),
+        (&[(24, 0, 0), CLEAR_BIT], 11, "bad log header\n"),
+        (
+            &[(25, 504, 1), (25, 508, 1), CLEAR_BIT],
+            11,
+            "bad log 1 0\n",
+        ),
+    ];
+    for (changes, status, text) in volumes {
+        let mut image = made(rt.alloc())?;
+        for change in changes {
+            put(&mut image, *change);
+        }
+        let left = run_over(rt.alloc(), &["check", "S"], image, NOTHING)?;
+        assert_eq!(rt; left.status, status, "{changes:?}");
+        assert_eq!(rt; left.text.as_slice(), text.as_bytes(), "{changes:?}");
+        assert_eq!(rt; (left.sectors, left.calls), (792, 0), "{changes:?}");
+    }
+    Ok(())
+}
+
+#[test]
+fn checks_of_a_log(rt: HostRuntime) -> Result<(), std::test::Fail> {
+    for (logged, home, status, text) in [
+        (SET_BIT, SET_BIT, 0, CLEAN),
+        (SET_BIT, CLEAR_BIT, 0, CLEAN),
+        (CLEAR_BIT, SET_BIT, 7, ROOT_BLOCK),
+    ] {
+        let mut image = made(rt.alloc())?;
+        put(&mut image, logged);
+        log_group(&mut image);
+        put(&mut image, home);
+        let left = run_over(rt.alloc(), &["check", "S"], image, NOTHING)?;
+        assert_eq!(rt; left.status, status, "{logged:?} {home:?}");
+        assert_eq!(rt;
+            left.text.as_slice(),
+            text.as_bytes(),
+            "{logged:?} {home:?}"
+        );
+        assert_eq!(rt; (left.sectors, left.calls), (792, 0), "{logged:?} {home:?}");
+    }
+    Ok(())
+}
+
+#[test]
+fn checks_that_fail(rt: HostRuntime) -> Result<(), std::test::Fail> {
+    let fault = "disk fault S\n";
+    // Superblock, log header and ring are read, and then the group's block.
+    for (change, read, status, text) in [
+        (SAME, 1, 4, fault),
+        (SAME, 2, 4, fault),
+        (SAME, 3, 4, fault),
+        (SAME, 4, 4, fault),
+        (SAME, 1000, 0, CLEAN),
+        ((16, 0, 0), 2, 6, "not a volume S\n"),
+        ((24, 0, 0), 3, 11, "bad log header\n"),
+    ] {
+        let failing = Failing {
+            disk: Some(Fail::Read(read)),
+            ..NOTHING
+        };
+        let mut image = made(rt.alloc())?;
+        put(&mut image, change);
+        let left = run_over(rt.alloc(), &["check", "S"], image, failing)?;
+        assert_eq!(rt; left.status, status, "{change:?} {read}");
+        assert_eq!(rt; left.text.as_slice(), text.as_bytes(), "{change:?} {read}");
+        assert_eq!(rt; (left.sectors, left.calls), (792, 0), "{change:?} {read}");
+    }
+    for (change, take, put_fails, status, text) in [
+        (SAME, Some(1), None, 5, ""),
+        (SAME, Some(2), None, 4, fault),
+        (SAME, None, Some(1), 5, ""),
+        (CLEAR_BIT, None, Some(1), 7, ""),
+    ] {
+        let failing = Failing {
+            take,
+            put: put_fails,
+            disk: None,
+        };
+        let mut image = made(rt.alloc())?;
+        put(&mut image, change);
+        let left = run_over(rt.alloc(), &["check", "S"], image, failing)?;
+        assert_eq!(rt; left.status, status, "{failing:?}");
+        assert_eq!(rt; left.text.as_slice(), text.as_bytes(), "{failing:?}");
+        assert_eq!(rt; (left.sectors, left.calls), (792, 0), "{failing:?}");
     }
     Ok(())
 }

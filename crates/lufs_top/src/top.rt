@@ -1,8 +1,9 @@
 ghost use Rattle.std.specs.Prelude.{◌≡◌, ◌∷◌, [], Some, None, Contains};
 ghost use Rattle.host_io.specs.declared.host.AskKind.TheVariants.{TakeSink};
-ghost use Rattle.lufs_top.specs.Run.{Ran, Runs, AsksInOrder, HasCauses, KeepsOthers, IsBack, asked_by, volume_of, status_without_output};
+ghost use Rattle.lufs_top.specs.Run.{Ran, Runs, AsksInOrder, HasCauses, KeepsOthers, IsBack, TellsVerdict, asked_by, volume_of, status_without_output};
 ghost use Rattle.lufs_top.specs.Words.{command_meant, command_of, standard_output};
 
+use crate::check::check_named;
 use crate::ending::Ending;
 use crate::mkfs::mkfs_named;
 use crate::report::{REPLY_FAULT, report};
@@ -23,6 +24,7 @@ fn run_command<'a, H: Host>(alloc: Global, host: &mut H, command: Command<'a>) -
 {
     match command {
         Command::Scan { volume } => scan_named(alloc, host, volume),
+        Command::Check { volume } => check_named(alloc, host, volume),
         Command::Mkfs { volume, numbers } => mkfs_named(alloc, host, volume, numbers),
     }
 }
@@ -47,10 +49,10 @@ fn status_without_output(error: HostError) -> u8
     }
 }
 
-/// Runs a command: `scan VOL` prints the committed transactions in the log of a volume, and
-/// `mkfs VOL G BPG IPG L` makes an empty volume. It answers the exit status, prints one line where it
-/// isn't 0, gives back what it took, and always returns. Where memory runs out a run may end anywhere,
-/// with status 12 (`README.md`, "Statuses").
+/// Runs a command: `scan VOL` prints the committed transactions in the log of a volume, `check VOL` tells
+/// whether it is sound once its log is replayed, and `mkfs VOL G BPG IPG L` makes an empty volume. It answers
+/// the exit status, prints one line where it isn't 0, gives back what it took, and always returns. Where memory
+/// runs out a run may end anywhere, with status 12 (`README.md`, "Statuses").
 pub fn run<H: Host>(alloc: Global, host: &mut H, words: &[String]) -> u8
     // How it ended, what it did and what it printed, by the command of the words.
     ensures ran { Runs (command_of words.now) result (H.outside host.old) (H.outside host.new) }
@@ -58,11 +60,13 @@ pub fn run<H: Host>(alloc: Global, host: &mut H, words: &[String]) -> u8
     // cause of each failure, and that all else is as it was.
     ensures usage { result ≡ 1 → command_of words.now ≡ None }
     ensures no_command { command_of words.now ≡ None → Contains (1 ∷ 5 ∷ 12 ∷ []) result }
-    ensures statuses { Contains (0 ∷ 1 ∷ 2 ∷ 4 ∷ 5 ∷ 6 ∷ 10 ∷ 11 ∷ 12 ∷ []) result }
+    ensures statuses { Contains (0 ∷ 1 ∷ 2 ∷ 4 ∷ 5 ∷ 6 ∷ 7 ∷ 10 ∷ 11 ∷ 12 ∷ []) result }
     ensures asks { AsksInOrder ((TakeSink, standard_output) ∷ asked_by (command_of words.now)) (H.outside host.old) (H.outside host.new) }
     ensures causes { HasCauses (volume_of (command_of words.now)) result (H.outside host.old) (H.outside host.new) }
     ensures others { KeepsOthers (volume_of (command_of words.now)) (H.outside host.old) (H.outside host.new) }
     ensures back { IsBack (volume_of (command_of words.now)) (H.outside host.old) (H.outside host.new) }
+    // What the status of a check says of the volume.
+    ensures verdict { TellsVerdict (command_of words.now) result (H.outside host.old) }
 {
     let mut out = match host.take_sink(STANDARD_OUTPUT) {
         Ok(out) => out,

@@ -10,6 +10,10 @@ pub(crate) enum Command<'a> {
     Scan {
         volume: &'a str,
     },
+    /// Checks a volume.
+    Check {
+        volume: &'a str,
+    },
     /// Makes an empty volume of these numbers.
     Mkfs {
         volume: &'a str,
@@ -37,6 +41,11 @@ pub(crate) fn command_of(words: &[String]) -> Option<Command<'_>>
     match words {
         [command, volume] if command.as_str() == "scan" && volume.as_str() != "-" => Some(
             Command::Scan {
+                volume: volume.as_str(),
+            },
+        ),
+        [command, volume] if command.as_str() == "check" && volume.as_str() != "-" => Some(
+            Command::Check {
                 volume: volume.as_str(),
             },
         ),

@@ -1,8 +1,8 @@
-use Rattle.std.proofs.Common.{◌≡◌, ℕ, List, Some, Ok, Err, refl, sym, ◌∙◌, ap, arith, rules}
+use Rattle.std.proofs.Common.{Err, refl, ◌∙◌, ap, arith}
 use Rattle.new_volume.specs.declared.make.MkfsError.{MkfsError}
 use Rattle.host_io.specs.declared.host.AskKind.TheVariants.{MakeDisk}
 use Rattle.host_io.specs.Outside.{after_ask, refused_with}
-use Rattle.lufs_top.specs.Mkfs.{out_of_range, no_memory, not_made, worked}
+use Rattle.lufs_top.specs.Mkfs.{out_of_range, not_made}
 use Rattle.lufs_top.proofs.CommandSteps.{none_fails}
 use Rattle.lufs_top.proofs.MkfsSteps.{mkfs_worked, mkfs_failed}
 use Rattle.lufs_top.proofs.mkfs.mkfs_named.Goals as goal

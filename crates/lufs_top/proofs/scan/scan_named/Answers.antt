@@ -1,5 +1,5 @@
-use Rattle.std.proofs.Common.{◌≡◌, ℕ, List, Some, Ok, Err, refl, sym, ◌∙◌, ap, rules}
-use Rattle.lufs_top.specs.Scan.{not_lent, read}
+use Rattle.std.proofs.Common.{Err, refl, ap}
+use Rattle.lufs_top.specs.Borrowed.{not_lent, read}
 use Rattle.lufs_top.proofs.CommandSteps.{lent_and_back, none_fails}
 use Rattle.lufs_top.proofs.ScanSteps.{scan_stopped}
 use Rattle.lufs_top.proofs.scan.scan_named.Goals as goal

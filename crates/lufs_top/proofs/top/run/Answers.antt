@@ -1,10 +1,11 @@
-use Rattle.std.proofs.Common.{◌≡◌, ℕ, List, Option, Some, None, Err, sym, ap, subst}
+use Rattle.std.proofs.Common.{Option, Err, ap, subst}
 use Rattle.host_io.specs.Outside.{Outside}
 use Rattle.lufs_top.specs.Words.{Command, command_of}
 use Rattle.lufs_top.specs.Run.{Ran, Runs, no_output, ran}
 use Rattle.lufs_top.proofs.CommandSteps.{still_lent, taken_is_lent}
 use Rattle.lufs_top.proofs.RunClauses.{run_usage, run_no_command, run_statuses, run_asks, run_others}
 use Rattle.lufs_top.proofs.RunCauses.{run_back, run_causes}
+use Rattle.lufs_top.proofs.RunVerdict.{run_verdict}
 use Rattle.lufs_top.proofs.top.run.Goals as goal
 
 pub returns-in-Err : goal.returns-in-Err
@@ -23,6 +24,7 @@ returns-in-Err g c =
       causes = run_causes command _ old new run;
       others = run_others command _ old new run;
       back = run_back command _ old new run;
+      verdict = run_verdict command _ old new run;
     }
 
 pub give_sink-requires : goal.give_sink-requires
@@ -50,4 +52,5 @@ returns g c =
       causes = run_causes command _ old new run;
       others = run_others command _ old new run;
       back = run_back command _ old new run;
+      verdict = run_verdict command _ old new run;
     }

@@ -8,6 +8,10 @@ pub returns-in-Scan : goal.returns-in-Scan
 returns-in-Scan g c =
     subst (λ (command : SpokenCommand). Ran (Some (command_meant command)) c.scan_named.result (g.H.Host.outside c.args.host.now) (g.H.Host.outside c.scan_named.new.host)) (sym c.in-Scan.is) c.scan_named.ensures
 
+pub returns-in-Check : goal.returns-in-Check
+returns-in-Check g c =
+    subst (λ (command : SpokenCommand). Ran (Some (command_meant command)) c.check_named.result (g.H.Host.outside c.args.host.now) (g.H.Host.outside c.check_named.new.host)) (sym c.in-Check.is) c.check_named.ensures
+
 pub returns-in-Mkfs : goal.returns-in-Mkfs
 returns-in-Mkfs g c =
     subst (λ (command : SpokenCommand). Ran (Some (command_meant command)) c.mkfs_named.result (g.H.Host.outside c.args.host.now) (g.H.Host.outside c.mkfs_named.new.host)) (sym c.in-Mkfs.is) c.mkfs_named.ensures

@@ -1,4 +1,4 @@
-use Rattle.std.proofs.Common.{Option, ap, subst, ◌∙◌, sym}
+use Rattle.std.proofs.Common.{Option, subst}
 use Rattle.lufs_top.specs.Words.{Command}
 use Rattle.lufs_top.specs.Run.{Ran}
 use Rattle.lufs_top.proofs.top.run_words.Goals as goal
