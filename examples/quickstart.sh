@@ -1,7 +1,7 @@
 #!/usr/bin/env bash
-# Makes the smallest volume in a file, and lists the transactions of its log, which has none yet. It
-# prints `made blocks 99 inodes 30 free 61 ring 255`, and at last `epoch 1 head 0 tid 1 ring 255` and
-# `committed 0 sectors 0`.
+# Makes the smallest volume in a file, checks it, and lists the transactions of its log, which has none
+# yet. It prints `made blocks 99 inodes 30 free 61 ring 255`, then `clean inodes 1 blocks 1 free 61`, and
+# at last `epoch 1 head 0 tid 1 ring 255` and `committed 0 sectors 0`.
 set -eu
 
 # Prints a command, and runs it.
@@ -27,5 +27,7 @@ cd "$folder"
 
 echo "# a volume of one group of 64 blocks and 32 inodes, with a log of 256 sectors"
 run "lufs mkfs volume 1 64 32 256"
+echo "# whether it is sound"
+run "lufs check volume"
 echo "# the committed transactions in its log"
 run "lufs scan volume"

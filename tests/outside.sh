@@ -23,6 +23,7 @@ cd "$folder" || exit 1
 
 failed=0
 numbers='1 64 32 256'
+clean='clean inodes 1 blocks 1 free 61'
 made='made blocks 99 inodes 30 free 61 ring 255'
 empty=$'epoch 1 head 0 tid 1 ring 255\ncommitted 0 sectors 0'
 
@@ -63,6 +64,7 @@ echo '# the statuses'
 ends 'mkfs of a name that is not there' 0 "$made" mkfs volume $numbers
 is 'the new file has just the volume' 405504 "$(stat -c %s volume)"
 ends 'scan of a new volume' 0 "$empty" scan volume
+ends 'check of a new volume' 0 "$clean" check volume
 cp volume first
 sleep 1
 ends 'mkfs of a file that is there' 0 "$made" mkfs volume $numbers
@@ -73,26 +75,36 @@ cmp -l first volume | python3 -c 'import sys
 print(all(147736 <= int(line.split()[0]) - 1 < 147744 for line in sys.stdin))' >differ
 is 'a second mkfs changes the moment alone' True "$(cat differ)"
 ends 'no words' 1 usage
-ends 'another word' 1 usage check volume
+ends 'another word' 1 usage fsck volume
 ends 'a word too many' 1 usage mkfs volume $numbers 1
 ends 'a seventh and an eighth word' 1 usage mkfs volume $numbers 1 2
 ends 'a number with a sign' 1 usage mkfs volume +1 64 32 256
 ends 'scan of a name that is not there' 2 'missing nothing' scan nothing
+ends 'check of a name that is not there' 2 'missing nothing' check nothing
 ends 'mkfs where the directory is not there' 4 'disk fault no/volume' mkfs no/volume $numbers
 ends 'scan below a file' 4 'disk fault volume/x' scan volume/x
 : >small
 ends 'scan of an empty file' 6 'not a volume small' scan small
+ends 'check of an empty file' 6 'not a volume small' check small
 ends 'mkfs of an empty file' 10 'geometry sectors 0' mkfs small $numbers
 ends 'a number out of its range' 10 'geometry bpg 65' mkfs new 1 65 32 256
 is 'then no file is made' no "$([ -e new ] && echo yes || echo no)"
 cp volume bad
 put bad 12288 00
 ends 'a bad log header' 11 'bad log header' scan bad
+ends 'check with a bad log header' 11 'bad log header' check bad
+cp volume bad
+# The byte of the block bits in which that of the root's block stands.
+put bad 143520 03
+cp bad before
+ends 'check of a volume with a wrong bit' 7 'unsound blockbit 37' check bad
+same 'check writes nothing to the file' before bad
 cp volume bad
 # A record of type 9 in the first sector of the ring, with its trailer.
 put bad 12800 0000000000024100000000800000000941c00002
 put bad 13304 0000000100000001
 ends 'a bad log' 11 'bad log 1 0' scan bad
+ends 'check with a bad log' 11 'bad log 1 0' check bad
 put bad 12815 02
 put bad 12944 00000000000000010000000100000008
 ends 'a log with one transaction' 0 \
@@ -101,6 +113,8 @@ cp bad before
 ends 'scan of it again' 0 \
     $'epoch 1 head 0 tid 1 ring 255\ntx 1 sectors 1 deltas 1 bytes 144\ncommitted 1 sectors 1' scan bad
 same 'scan writes nothing to the file' before bad
+ends 'check of it, with a log that makes the root wrong' 7 'unsound fields 2' check bad
+same 'check replays nothing into the file' before bad
 
 echo '# words'
 mkdir 'a folder'
