@@ -19,7 +19,7 @@ def delta(home, kind, logged, length):
     return struct.pack(">QII", home, length, kind) + logged
 
 
-# The deltas of one transaction, of which each needs a home behind that of the one before it.
+# The deltas of one transaction, of which each needs a home after that of the one before it.
 if shape == "inodes":  # as many inode records as fit
     deltas = [delta(4096 * (first + 1) + 128 * i, 2, bytes([i + 1]) * 128, 128) for i in range(3)]
 elif shape == "pointers":  # as many block numbers of 4 bytes as fit

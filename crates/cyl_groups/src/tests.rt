@@ -170,7 +170,7 @@ fn free_and_used(rt: HostRuntime) {
         ("none", [all; 8], 0, None),
         ("first", [7, 0, 0, 0, 0, 0, 0, 0], 0, Some(3)),
         ("from the first", [7, 0, 0, 0, 0, 0, 0, 0], 3, Some(3)),
-        ("from behind it", [7, 0, 0, 0, 0, 0, 0, 0], 4, Some(4)),
+        ("from after it", [7, 0, 0, 0, 0, 0, 0, 0], 4, Some(4)),
         ("before", [0xfe, all, all, all, all, all, all, all], 1, None),
         (
             "last",

@@ -24,14 +24,14 @@ taken_over (t ∷ slots) zero i name s below is free =
     subst Entered is (sym (ap (λ (b : Bool). (if b then record s { ino = i; name = name } ∷ [] else record s { len = kept_length s } ∷ (record { ino = i; len = s.len - kept_length s; name = name } ∷ [])) ++ slots) (eq-eqb s.ino 0 free)))
 taken_over (t ∷ slots) (suc place) i name s below is free = ap (λ (l : List Slot). t ∷ l) (taken_over slots place i name s (omega arith) is free)
 
--- a slot is inserted behind one that stays
+-- a slot is inserted after one that stays
 pub stays : (slots : List Slot) (place : ℕ) (new d : Slot) → place < length slots
     → get_or (take (suc place) slots ++ new ∷ drop (suc place) slots) place d ≡ get_or slots place d
 stays [] place new d below = absurd (omega arith)
 stays (t ∷ slots) zero new d below = refl
 stays (t ∷ slots) (suc place) new d below = stays slots place new d (omega arith)
 
--- a slot in use is cut, and the new one stands behind it
+-- a slot in use is cut, and the new one stands after it
 pub cut_at : (slots : List Slot) (place i kept : ℕ) (name : List ℕ) (s : Slot) → place < length slots → s ≡ get_or slots place s → (s.ino ≡ 0 → ⊥)
     → kept ≡ kept_length s
     → set (take (suc place) slots ++ record { ino = i; len = s.len - kept; name = name } ∷ drop (suc place) slots) place (record { ino = s.ino; len = kept; name = s.name })

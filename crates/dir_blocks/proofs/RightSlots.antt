@@ -167,7 +167,7 @@ with_ino_right (s ∷ slots) (suc place) i bytes are used number small =
     (with_first s (with_ino slots place i) (bytes - s.len) (first_right s slots bytes are)
     (with_ino_right slots place i (bytes - s.len) (behind_right s slots bytes are) used number small))
 
--- a slot with the bytes of the one behind it
+-- a slot with the bytes of the one after it
 wider_right : (s t : Slot) → IsSlot s → IsSlot t → IsSlot (record { ino = s.ino; len = s.len + t.len; name = s.name })
 wider_right s t is next = record {
   ino = is.ino;
@@ -214,7 +214,7 @@ are_right slots is = record { right = is.right; full = is.full }
 pub is_chunk : (slots : List Slot) → AreRight slots 512 → IsChunk slots
 is_chunk slots are = record { right = are.right; full = are.full }
 
--- the first slot with room takes a name, or want of memory leaves the slots as they were
+-- the first slot with room takes a name, or lack of memory leaves the slots as they were
 pub entered_chunk : {T E : Type 0} (result : Result T E) (slots after : List Slot) (place i : ℕ) (name : List ℕ) → IsChunk slots
     → OnOk result (after ≡ with_name_at slots place name i) → OnErr result (after ≡ slots)
     → room_in slots name ≡ Some place → IsName name → (i ≡ 0 → ⊥) → i < 2 ^ 32 → IsChunk after

@@ -101,7 +101,7 @@ first_zero : (n : ℕ) (rest : List ℕ) → 0 < n → get_or (replicate n 0 ++ 
 first_zero zero rest some = absurd (omega arith)
 first_zero (suc n) rest some = refl
 
--- a zero byte stands behind the name of a slot in use
+-- a zero byte stands after the name of a slot in use
 zero_behind : (s : Slot) (rest : List ℕ) → 9 + length s.name ≤ s.len → slice_index (slot_bytes s ++ rest) (8 + length s.name) ≡ 0
 zero_behind s rest room =
     let bytes = slot_bytes s ++ rest in

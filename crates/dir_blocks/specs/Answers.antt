@@ -1,4 +1,4 @@
--- What a reader of a chunk answers. Want of memory says nothing of the bytes.
+-- What a reader of a chunk answers. Lack of memory says nothing of the bytes.
 use Rattle.std.specs.Prelude.{◌≡◌, List, Option, Some, None, Result, Ok, Err}
 use Rattle.volume_model.specs.declared.directory.Slot.{Slot}
 use Rattle.dir_blocks.specs.declared.chunk.ChunkError.{ChunkError}

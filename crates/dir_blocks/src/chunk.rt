@@ -36,7 +36,7 @@ impl Model for Chunk {
 pub enum ChunkError {
     /// The bytes are no chunk.
     Bad,
-    /// Memory was wanted.
+    /// Out of memory.
     Mem,
 }
 

@@ -50,7 +50,7 @@ pub fn find_in(slots: &[Slot], name: &Name) -> Option<usize>
     slots.iter().position(|slot| gives(slot, name))
 }
 
-// Whether the bytes of a slot have a right name, a zero byte behind it, and room for both.
+// Whether the bytes of a slot have a right name, a zero byte after it, and room for both.
 fn is_named(bytes: &[u8]) -> bool
     requires head { 8 ≤ length bytes.now }
     requires inside { u16_at bytes.now 4 ≤ length bytes.now }

@@ -10,7 +10,7 @@ use Rattle.lufs_base.specs.declared.geometry.Geometry.{Geometry}
 use Rattle.lufs_base.specs.Layout.{header_sector, ring_place, superblock_sector}
 use Rattle.volume_model.specs.Format.{Blocks, Image, sector, sectors_of, block, geometry_of, super_bytes, super_of, group_bytes, dinode_bytes, clear_bits, group_of, dinode_of, numbers_in, slots_in}
 use Rattle.volume_model.specs.MkfsImage.{made_block, made_header}
-use Rattle.volume_model.specs.Log.{recovered, log_with, transactions_from, Behind, Listed, header_bytes, header_of, trailer_of, run_behind, front_of}
+use Rattle.volume_model.specs.Log.{recovered, log_with, transactions_from, WithHeader, Listed, header_bytes, header_of, trailer_of, run_after, front_of}
 use Rattle.volume_model.specs.Sound.{Reading, InodeState, Node, Tree, AreApart, HasShape, MountsAs, HasNoLaterIdent, finding_of, reading_of, claims_of, used_of, used_at, node_of, tree_of, shape_of}
 use Rattle.volume_model.specs.Worked.{smallest}
 use Rattle.volume_model.proofs.ReplayLaws.{nothing_replayed}
@@ -45,8 +45,8 @@ super_there : super_of (sectors_there superblock_sector) 792 ≡ Some smallest
 unfolding number_in made_block super_bytes header_bytes group_bytes dinode_bytes super_of
 super_there = refl
 
-log_there : log_with smallest (sectors_there (header_sector smallest)) (λ place. sectors_there (ring_place smallest place)) ≡ Behind made_header (Listed [])
-unfolding number_in made_block super_bytes header_bytes group_bytes dinode_bytes header_of log_with transactions_from run_behind front_of
+log_there : log_with smallest (sectors_there (header_sector smallest)) (λ place. sectors_there (ring_place smallest place)) ≡ WithHeader made_header (Listed [])
+unfolding number_in made_block super_bytes header_bytes group_bytes dinode_bytes header_of log_with transactions_from run_after front_of
 log_there = refl
 
 header_there : header_of smallest (sectors_there (header_sector smallest)) ≡ Some made_header

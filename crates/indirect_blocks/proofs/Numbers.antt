@@ -48,7 +48,7 @@ length-numbers : (numbers : List ℕ) → length (pointer_bytes numbers) ≡ 4 *
 length-numbers [] = refl
 length-numbers (m ∷ numbers) = omega (arith, length-numbers numbers, length-append (field_bytes 4 m) (pointer_bytes numbers))
 
--- one number more is written behind the first i
+-- one number more is written after the first i
 pub written_more : (numbers old : List ℕ) (i d : ℕ) → i < length numbers
     → put_at (put_at old 0 (pointer_bytes (take i numbers))) (4 * i) (field_bytes 4 (get_or numbers i d)) ≡ put_at old 0 (pointer_bytes (take (i + 1) numbers))
 written_more numbers old i d below =

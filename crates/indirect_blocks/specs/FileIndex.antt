@@ -1,5 +1,5 @@
 -- Where the number of a file's block stands: 12 numbers in the inode, then 1,024 in its pointer block,
--- then 1,024 pointer blocks behind its double one.
+-- then 1,024 pointer blocks after its double one.
 use Rattle.std.specs.Prelude.{◌≡◌, ◌<◌, ◌≤◌, ℕ, ◌+◌, ◌-◌, ◌*◌, ◌/◌, ◌%◌, nat_lt, if◌then◌else◌}
 use Rattle.indirect_blocks.specs.declared.place.Place.{Place}
 use Rattle.indirect_blocks.specs.declared.place.Place.TheVariants.{Direct, Single, Double, Past}

@@ -1,4 +1,4 @@
--- A delta may stand before each that may stand behind one behind it. So the last delta alone decides
+-- A delta may stand before each that may stand after one after it. So the last delta alone decides
 -- which may follow.
 use Rattle.std.proofs.Common.{◌≡◌, ℕ, ◌+◌, ◌-◌, ◌/◌, ◌%◌, ◌<◌, ◌≤◌, ◌⊎◌, inl, inr, Bool, true, false, not, ltb, eqb, leb, subst, IfSome, ◌&&◌, ◌||◌, List, [], ◌∷◌, ◌++◌, length, Option, Some, None, refl, sym, ap, ◌∙◌, arith}
 use Rattle.std.specs.List.{list_all}
@@ -12,7 +12,7 @@ use Rattle.lufs_base.specs.declared.delta.DeltaKind.{DeltaKind}
 use Rattle.lufs_base.specs.declared.delta.DeltaKind.TheVariants.{Group, Inode, Chunk, Pointers, Zero, LinkText, Cancel}
 use Rattle.lufs_base.specs.Kinds.{has_bytes}
 use Rattle.volume_model.specs.Log.{is_part_of_block, is_zero_block, is_cancel, may_be_logged, may_precede}
-use Rattle.log_format.specs.InOrder.{last_of, may_stand_behind, MayBeLogged, InOrder}
+use Rattle.log_format.specs.InOrder.{last_of, may_stand_after, MayBeLogged, InOrder}
 
 part_of_block : (g : Geometry) (kind : DeltaKind) (home len : ℕ) → may_be_logged g kind home len ≡ true → is_part_of_block kind (home % 4096) len ≡ true
 unfolding may_be_logged
@@ -134,7 +134,7 @@ precedes_to d kind home is =
 not_below : (d : Delta) (kind : DeltaKind) (home : ℕ) → Precedes d kind home → d.home ≤ home
 not_below d kind home is = elim is.rises [ inl less ↦ omega (arith, less) | inr laid ↦ omega (arith, laid.0) ]
 
--- a delta with bytes ends before the start of any block behind it
+-- a delta with bytes ends before the start of any block after it
 ends_before : (g : Geometry) (p q : Delta) → MayBeLogged g p → MayBeLogged g q → Precedes p q.kind q.home
     → has_bytes p.kind ≡ true → has_bytes q.kind ≡ false → p.home + p.len ≤ q.home
 ends_before g p q p_may q_may is has none =
@@ -181,9 +181,9 @@ last_pushed deltas d =
     slice_get-get_or (deltas ++ d ∷ []) (length (deltas ++ d ∷ []) - 1) d (omega arith)
     ∙ ap (λ x. Some x) (get_or_push deltas d d (length (deltas ++ d ∷ []) - 1) (omega arith))
 
--- what may stand behind a delta behind the last one, may stand behind that
+-- what may stand after a delta after the last one, may stand after that
 through_last : (g : Geometry) (last : Option Delta) (d : Delta) (kind : DeltaKind) (home : ℕ) → IfSome last (MayBeLogged g) → MayBeLogged g d
-    → may_stand_behind last d.kind d.home ≡ true → may_precede d kind home ≡ true → may_stand_behind last kind home ≡ true
+    → may_stand_after last d.kind d.home ≡ true → may_precede d kind home ≡ true → may_stand_after last kind home ≡ true
 through_last g None d kind home last_may d_may first second = refl
 through_last g (Some p) d kind home last_may d_may first second = may_precede_through g p d kind home last_may d_may first second
 
@@ -193,12 +193,12 @@ InOrder-nil g = record { last_logged = tt; last_decides = λ kind home. refl }
 pub InOrder-push : (g : Geometry) (deltas : List Delta) (d : Delta) → InOrder g deltas → MayBeLogged g d
     → list_all (λ e. may_precede e d.kind d.home) deltas ≡ true → InOrder g (deltas ++ d ∷ [])
 InOrder-push g deltas d order d_may all =
-    let first : may_stand_behind (last_of deltas) d.kind d.home ≡ true = sym (order.last_decides d.kind d.home) ∙ all in
+    let first : may_stand_after (last_of deltas) d.kind d.home ≡ true = sym (order.last_decides d.kind d.home) ∙ all in
     record {
       last_logged = subst (λ (last : Option Delta). IfSome last (MayBeLogged g)) (sym (last_pushed deltas d)) d_may;
       last_decides = λ kind home.
           list_all-append (λ e. may_precede e kind home) deltas (d ∷ [])
           ∙ absorbs (list_all (λ e. may_precede e kind home) deltas) (may_precede d kind home)
           (λ second. order.last_decides kind home ∙ through_last g (last_of deltas) d kind home order.last_logged d_may first second)
-          ∙ ap (λ (last : Option Delta). may_stand_behind last kind home) (sym (last_pushed deltas d));
+          ∙ ap (λ (last : Option Delta). may_stand_after last kind home) (sym (last_pushed deltas d));
     }

@@ -1,4 +1,4 @@
--- Bytes that are written at a place of a list, one part behind the other.
+-- Bytes that are written at a place of a list, one part after the other.
 use Rattle.std.proofs.Common.{◌≡◌, ℕ, ◌+◌, ◌-◌, ◌≤◌, List, [], ◌++◌, length, take, drop, replicate, refl, sym, ap, ◌∙◌, arith, append_assoc, length-append}
 use Rattle.std.proofs.lemmas.List.{append-nil, drop-drop, drop_all, take-take, drop_at, take_at, take_rest, length-take-le, length-drop}
 use borrow.Rule.Slice.PartMut.{put_mid}
@@ -14,7 +14,7 @@ take-put_at old a at end inside is =
     ap (λ (l : List ℕ). take end l) (sym (append_assoc (take at old) a (drop (at + length a) old)))
     ∙ take_at (take at old ++ a) (drop (at + length a) old) end (length_front old a at inside ∙ sym is)
 
--- and those behind it
+-- and those after it
 pub drop-put_at : (old a : List ℕ) (at end : ℕ) → at ≤ length old → end ≡ at + length a → drop end (put_at old at a) ≡ drop end old
 drop-put_at old a at end inside is =
     ap (λ (l : List ℕ). drop end l) (sym (append_assoc (take at old) a (drop (at + length a) old)))

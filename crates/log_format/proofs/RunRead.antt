@@ -11,7 +11,7 @@ use Rattle.lufs_base.specs.declared.delta.Delta.{Delta}
 use Rattle.lufs_base.specs.declared.delta.DeltaKind.{DeltaKind}
 use Rattle.lufs_base.specs.declared.delta.DeltaKind.TheVariants.{Group, Inode, Chunk, Pointers, Zero, LinkText, Cancel}
 use Rattle.lufs_base.proofs.Spelling.{read_back_of}
-use Rattle.volume_model.specs.Log.{type_of, kind_of, logged_len, may_be_logged, may_precede, Whole, Front, Logged, Commit, Cut, Wrong, front_of_kind, is_commit, front_of, run_behind, AreLoggable, delta_record, commit_record}
+use Rattle.volume_model.specs.Log.{type_of, kind_of, logged_len, may_be_logged, may_precede, Whole, Front, Logged, Commit, Cut, Wrong, front_of_kind, is_commit, front_of, run_after, AreLoggable, delta_record, commit_record}
 use Rattle.log_format.proofs.RunSteps.{run_by_front}
 use Rattle.log_format.proofs.TxSize.{few_blocks, low_home, low_len}
 
@@ -91,7 +91,7 @@ front_commit g tid zeros before low few short =
     ∙ cond-true (eqb (u32_at bytes 12) 8) (cond (is_commit tid before bytes) Commit Wrong) _ (eq-eqb _ _ type)
     ∙ cond-true (is_commit tid before bytes) Commit Wrong right
 
--- the next delta may stand behind all before it
+-- the next delta may stand after all before it
 follows_all : (g : Geometry) (before rest : List Delta) (d : Delta) → AreLoggable g (before ++ d ∷ rest) → list_all (λ e. may_precede e d.kind d.home) before ≡ true
 follows_all g before rest d are =
     list_all-from_AllPass (λ e. may_precede e d.kind d.home) before (λ k x inside.
@@ -100,15 +100,15 @@ follows_all g before rest d are =
     subst (λ (e : Delta). may_precede e d.kind d.home ≡ true) (get_or_append_left before (d ∷ rest) x k inside)
     (subst (λ (later : Delta). may_precede (get_or (before ++ d ∷ rest) k x) later.kind later.home ≡ true) (get_or_at before d rest x (length before) refl) pair))
 
--- the run of the records of the rest, behind these deltas
+-- the run of the records of the rest, after these deltas
 pub run_rest : (g : Geometry) (tid n zeros : ℕ) (before rest : List Delta) → IsGeometry g → AreLoggable g (before ++ rest) → length rest < n
     → tid < 2 ^ 32 → length (before ++ rest) < 2 ^ 32 → zeros < 504
-    → run_behind g tid n before (flat_map delta_record rest ++ (commit_record tid (length (before ++ rest)) ++ replicate zeros 0)) ≡ Whole (before ++ rest)
+    → run_after g tid n before (flat_map delta_record rest ++ (commit_record tid (length (before ++ rest)) ++ replicate zeros 0)) ≡ Whole (before ++ rest)
 run_rest g tid zero zeros before rest is are room low few short = absurd (omega (arith, room))
 run_rest g tid (suc n) zeros before [] is are room low few short =
     let none : before ++ [] ≡ before = append-nil before in
     let count : length (before ++ []) ≡ length before = ap length none in
-    ap (λ (k : ℕ). run_behind g tid (suc n) before (commit_record tid k ++ replicate zeros 0)) count
+    ap (λ (k : ℕ). run_after g tid (suc n) before (commit_record tid k ++ replicate zeros 0)) count
     ∙ run_by_front g tid n before (commit_record tid (length before) ++ replicate zeros 0) Commit (front_commit g tid zeros before low (omega (arith, few, count)) short)
     ∙ ap (λ (l : List Delta). Whole l) (sym none)
 run_rest g tid (suc n) zeros before (d ∷ rest) is are room low few short =
@@ -125,7 +125,7 @@ run_rest g tid (suc n) zeros before (d ∷ rest) is are room low few short =
     drop_at (delta_record d) tail (16 + logged_len d.kind d.len) (omega (arith, size)) in
     let more = run_rest g tid n zeros (before ++ d ∷ []) rest is (subst (λ (l : List Delta). AreLoggable g l) (sym pushed) are) (omega (arith, room)) low
     (subst (λ (l : List Delta). length l < 2 ^ 32) (sym pushed) few) short in
-    ap (λ (l : List ℕ). run_behind g tid (suc n) before l) (append_assoc (delta_record d) (flat_map delta_record rest) (commit_record tid (length (before ++ d ∷ rest)) ++ replicate zeros 0))
+    ap (λ (l : List ℕ). run_after g tid (suc n) before l) (append_assoc (delta_record d) (flat_map delta_record rest) (commit_record tid (length (before ++ d ∷ rest)) ++ replicate zeros 0))
     ∙ run_by_front g tid n before (delta_record d ++ tail) (Logged d) front
-    ∙ ap (λ (l : List ℕ). run_behind g tid n (before ++ d ∷ []) l) behind
-    ∙ subst (λ (l : List Delta). run_behind g tid n (before ++ d ∷ []) (flat_map delta_record rest ++ (commit_record tid (length l) ++ replicate zeros 0)) ≡ Whole l) pushed more
+    ∙ ap (λ (l : List ℕ). run_after g tid n (before ++ d ∷ []) l) behind
+    ∙ subst (λ (l : List Delta). run_after g tid n (before ++ d ∷ []) (flat_map delta_record rest ++ (commit_record tid (length l) ++ replicate zeros 0)) ≡ Whole l) pushed more

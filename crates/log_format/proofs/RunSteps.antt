@@ -3,17 +3,17 @@ use Rattle.std.proofs.Common.{◌≡◌, ℕ, suc, ◌+◌, ◌-◌, ◌<◌, Li
 use Rattle.std.proofs.lemmas.List.{drop-drop, take_rest, length_push}
 use Rattle.lufs_base.specs.declared.geometry.Geometry.{Geometry}
 use Rattle.lufs_base.specs.declared.delta.Delta.{Delta}
-use Rattle.volume_model.specs.Log.{logged_len, Front as RecordFront, Logged as delta_front, front_of, run_at, run_behind}
+use Rattle.volume_model.specs.Log.{logged_len, Front as RecordFront, Logged as delta_front, front_of, run_at, run_after}
 use Rattle.log_format.specs.Answers.{IsFront, LoggedIsNext, IsNext}
 use Rattle.log_format.specs.declared.records.Front.{Front}
 use Rattle.log_format.specs.declared.records.Front.TheVariants.{Logged}
 
 -- the run by what stands at its front
 pub run_by_front : (g : Geometry) (tid n : ℕ) (before : List Delta) (bytes : List ℕ) (front : RecordFront) → front_of g tid before bytes ≡ front
-    → run_behind g tid (suc n) before bytes ≡ run_at front before (λ d. run_behind g tid n (before ++ d ∷ []) (drop (16 + logged_len d.kind d.len) bytes))
-unfolding run_behind
+    → run_after g tid (suc n) before bytes ≡ run_at front before (λ d. run_after g tid n (before ++ d ∷ []) (drop (16 + logged_len d.kind d.len) bytes))
+unfolding run_after
 run_by_front g tid n before bytes front is =
-    ap (λ (f : RecordFront). run_at f before (λ d. run_behind g tid n (before ++ d ∷ []) (drop (16 + logged_len d.kind d.len) bytes))) is
+    ap (λ (f : RecordFront). run_at f before (λ d. run_after g tid n (before ++ d ∷ []) (drop (16 + logged_len d.kind d.len) bytes))) is
 
 -- the answer about the rest of a payload from `at` on
 pub front_at : (g : Geometry) (tid at : ℕ) (slice before : List Delta) (payload : List ℕ) (answer front : Front) → slice ≡ before → answer ≡ front
@@ -30,15 +30,15 @@ next_at g at slice before payload answer d same is told =
     (subst (λ (bytes : List ℕ). LoggedIsNext g before bytes answer) (take_rest payload at)
     (subst (λ (deltas : List Delta). LoggedIsNext g deltas (take (length payload - at) (drop at payload)) answer) same told))
 
--- the run goes on behind the delta at its front
+-- the run goes on after the delta at its front
 pub run_on : (g : Geometry) (tid at size : ℕ) (before more : List Delta) (payload : List ℕ) (d : Delta) → front_of g tid before (drop at payload) ≡ delta_front d
     → size ≡ 16 + logged_len d.kind d.len → more ≡ before ++ d ∷ [] → length before < length payload
-    → run_behind g tid (suc (length payload - length more)) more (drop (at + size) payload) ≡ run_behind g tid (suc (length payload - length before)) before (drop at payload)
+    → run_after g tid (suc (length payload - length more)) more (drop (at + size) payload) ≡ run_after g tid (suc (length payload - length before)) before (drop at payload)
 run_on g tid at size before more payload d is size_is more_is room =
     let pushed : length more ≡ length before + 1 = ap length more_is ∙ length_push before d in
     let count : suc (length payload - length more) ≡ length payload - length before = omega arith in
-    ap (λ (n : ℕ). run_behind g tid n more (drop (at + size) payload)) count
-    ∙ ap (λ (deltas : List Delta). run_behind g tid (length payload - length before) deltas (drop (at + size) payload)) more_is
-    ∙ ap (λ (bytes : List ℕ). run_behind g tid (length payload - length before) (before ++ d ∷ []) bytes) (sym (drop-drop size at payload))
-    ∙ ap (λ (k : ℕ). run_behind g tid (length payload - length before) (before ++ d ∷ []) (drop k (drop at payload))) size_is
+    ap (λ (n : ℕ). run_after g tid n more (drop (at + size) payload)) count
+    ∙ ap (λ (deltas : List Delta). run_after g tid (length payload - length before) deltas (drop (at + size) payload)) more_is
+    ∙ ap (λ (bytes : List ℕ). run_after g tid (length payload - length before) (before ++ d ∷ []) bytes) (sym (drop-drop size at payload))
+    ∙ ap (λ (k : ℕ). run_after g tid (length payload - length before) (before ++ d ∷ []) (drop k (drop at payload))) size_is
     ∙ sym (run_by_front g tid (length payload - length before) before (drop at payload) (delta_front d) is)

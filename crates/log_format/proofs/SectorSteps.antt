@@ -10,7 +10,7 @@ use Rattle.volume_model.specs.Format.{pieces_of}
 use Rattle.volume_model.specs.Log.{trailer_bytes}
 use Rattle.log_format.proofs.Placed.{copied, drop_to-put_at, take_before-put_at, put_over, put_mid_at}
 
--- a piece of 504 bytes copied to its sector, and the trailer behind it
+-- a piece of 504 bytes copied to its sector, and the trailer after it
 pub sector_made : (old copy part : List ℕ) (trailer : Trailer) (i k end : ℕ) → 512 * i + 512 ≤ length old → k ≡ 512 → end ≡ 504 * i + 504
     → copy ≡ copy_within old (504 * i) end (512 * i) → part ≡ take 504 (take k (drop (512 * i) copy)) ++ trailer_bytes trailer
     → put_mid (512 * i) k copy part ≡ put_at old (512 * i) (take 504 (drop (504 * i) old) ++ trailer_bytes trailer)

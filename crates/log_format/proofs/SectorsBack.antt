@@ -67,7 +67,7 @@ payload_back trailer =
     ∙ ap (λ (l : List ℕ). l ++ payload_of (sectors_in (carrying trailer rest))) (take_at x (trailer_bytes trailer) 504 size)
     ∙ ap (λ (l : List ℕ). x ++ l) so_far)
 
--- they are its pieces, each with the trailer behind it
+-- they are its pieces, each with the trailer after it
 pub row_back : (trailer : Trailer) (m : ℕ) (payload : List ℕ) → length payload ≡ 504 * m
     → sectors_in (carrying trailer payload) ≡ map (λ piece. piece ++ trailer_bytes trailer) (pieces_of 504 payload)
 row_back trailer =

@@ -7,7 +7,7 @@ use Rattle.lufs_base.specs.declared.geometry.Geometry.{Geometry}
 use Rattle.lufs_base.specs.declared.delta.Delta.{Delta}
 use Rattle.volume_model.specs.declared.log.Trailer.{Trailer}
 use Rattle.volume_model.specs.Format.{sectors_in}
-use Rattle.volume_model.specs.Log.{belongs_to, payload_of, delta_bytes, Whole, run_of, run_behind, AreLoggable, tx_sectors, delta_record, commit_record, records_of, tx_payload, tx_row, tx_bytes}
+use Rattle.volume_model.specs.Log.{belongs_to, payload_of, delta_bytes, Whole, run_of, run_after, AreLoggable, tx_sectors, delta_record, commit_record, records_of, tx_payload, tx_row, tx_bytes}
 use Rattle.log_format.proofs.SectorsBack.{payload_back, row_back, carrying_size, trailers_back}
 use Rattle.log_format.proofs.RunRead.{run_rest}
 use Rattle.log_format.proofs.TxRecords.{length-records_of}
@@ -35,7 +35,7 @@ tx_reads g deltas tid ident is are low =
     let room : length deltas < suc (length (tx_payload deltas tid)) =
     omega (arith, fewer_than_bytes deltas, length-records_of deltas tid, length-append (records_of deltas tid) (replicate zeros 0)) in
     ap (λ (l : List ℕ). run_of g tid l) (payload_back trailer (tx_sectors deltas) (tx_payload deltas tid) (payload_long g deltas tid are))
-    ∙ ap (λ (l : List ℕ). run_behind g tid (suc (length (tx_payload deltas tid))) [] l) split
+    ∙ ap (λ (l : List ℕ). run_after g tid (suc (length (tx_payload deltas tid))) [] l) split
     ∙ run_rest g tid (suc (length (tx_payload deltas tid))) zeros [] deltas is are room low (few_deltas g deltas is are) (omega (arith, size))
 
 pub tx_trailers : (g : Geometry) (deltas : List Delta) (tid ident : ℕ) → AreLoggable g deltas → tid < 2 ^ 32 → ident < 2 ^ 32

@@ -1,4 +1,4 @@
--- The records of a transaction, one behind the other.
+-- The records of a transaction, one after the other.
 use Rattle.std.proofs.Common.{◌≡◌, ℕ, ◌+◌, ◌≤◌, ◌<◌, List, [], ◌∷◌, ◌++◌, length, take, get_or, sym, ap, ◌∙◌, arith, length-append}
 use Rattle.std.specs.List.{flat_map}
 use Rattle.std.proofs.lemmas.List.{take_more, flat_map_more}
@@ -33,7 +33,7 @@ records_step deltas d old new i at end inside is room end_is new_is front =
     ∙ ap (λ (l : List ℕ). l ++ delta_record d) front
     ∙ record_more deltas d i inside is
 
--- and the commit record behind them
+-- and the commit record after them
 pub commit_behind : (deltas : List Delta) (tid count : ℕ) (old new : List ℕ) (at end : ℕ) → count ≡ length deltas → at ≤ length old → end ≡ at + 16
     → new ≡ put_at old at (commit_record tid count) → take at old ≡ flat_map delta_record deltas → take end new ≡ records_of deltas tid
 commit_behind deltas tid count old new at end count_is room end_is new_is front =

@@ -10,7 +10,7 @@ use Rattle.lufs_base.specs.Fields.{u32_at}
 use Rattle.lufs_base.specs.declared.geometry.Geometry.{Geometry}
 use Rattle.lufs_base.specs.declared.delta.Delta.{Delta}
 use Rattle.lufs_base.specs.declared.delta.DeltaKind.{DeltaKind}
-use Rattle.volume_model.specs.Log.{kind_of, logged_len, may_be_logged, may_precede, Run, Whole, Front, Logged, Commit, Cut, Wrong, front_delta, is_commit, is_delta, front_of_kind, front_of, run_at, run_of, run_behind, AreLoggable}
+use Rattle.volume_model.specs.Log.{kind_of, logged_len, may_be_logged, may_precede, Run, Whole, Front, Logged, Commit, Cut, Wrong, front_delta, is_commit, is_delta, front_of_kind, front_of, run_at, run_of, run_after, AreLoggable}
 
 -- what is known of a delta at the front
 record Follows (g : Geometry) (before : List Delta) (d : Delta) : Type 0 where
@@ -82,11 +82,11 @@ by_next g tid before deltas bytes Commit more are front next is = let same : bef
 by_next g tid before deltas bytes Cut more are front next is = absurd (cc)
 by_next g tid before deltas bytes Wrong more are front next is = absurd (cc)
 
-behind_loggable : (g : Geometry) (tid n : ℕ) (before deltas : List Delta) (bytes : List ℕ) → AreLoggable g before → run_behind g tid n before bytes ≡ Whole deltas → AreLoggable g deltas
-unfolding run_behind
+behind_loggable : (g : Geometry) (tid n : ℕ) (before deltas : List Delta) (bytes : List ℕ) → AreLoggable g before → run_after g tid n before bytes ≡ Whole deltas → AreLoggable g deltas
+unfolding run_after
 behind_loggable g tid zero before deltas bytes are is = absurd (cc)
 behind_loggable g tid (suc n) before deltas bytes are is =
-    by_next g tid before deltas bytes (front_of g tid before bytes) (λ d. run_behind g tid n (before ++ d ∷ []) (drop (16 + logged_len d.kind d.len) bytes)) are refl
+    by_next g tid before deltas bytes (front_of g tid before bytes) (λ d. run_after g tid n (before ++ d ∷ []) (drop (16 + logged_len d.kind d.len) bytes)) are refl
     (λ d more rest. behind_loggable g tid n (before ++ d ∷ []) deltas (drop (16 + logged_len d.kind d.len) bytes) more rest) is
 
 none_loggable : (g : Geometry) → AreLoggable g []

@@ -1,4 +1,4 @@
--- What the answers of this crate say. Want of memory says nothing of the log.
+-- What the answers of this crate say. Lack of memory says nothing of the log.
 use Rattle.std.specs.Prelude.{◌≡◌, ℕ, ◌+◌, ◌≤◌, List, Result, Ok, Err, true, length}
 use Rattle.std.specs.List.{list_all}
 use Rattle.lufs_base.specs.declared.geometry.Geometry.{Geometry}
@@ -19,7 +19,7 @@ IsFront front Commit = front ≡ commit_front
 IsFront front Cut = front ≡ cut_front
 IsFront front Wrong = front ≡ wrong_front
 
--- a delta at the front may be logged behind these deltas, and its bytes are there
+-- a delta at the front may be logged after these deltas, and its bytes are there
 pub record IsNext (g : Geometry) (before : List Delta) (bytes : List ℕ) (d : Delta) : Type 0 where
   pub may : MayBeLogged g d
   pub follows : list_all (λ e. may_precede e d.kind d.home) before ≡ true

@@ -9,15 +9,15 @@ use Rattle.volume_model.specs.Log.{may_be_logged, may_precede}
 abbrev pub last_of : List Delta → Option Delta
 last_of deltas = slice_get deltas (length deltas - 1)
 
--- a delta of this kind and home may stand behind the last one
-abbrev pub may_stand_behind : Option Delta → DeltaKind → ℕ → Bool
-may_stand_behind None kind home = true
-may_stand_behind (Some d) kind home = may_precede d kind home
+-- a delta of this kind and home may stand after the last one
+abbrev pub may_stand_after : Option Delta → DeltaKind → ℕ → Bool
+may_stand_after None kind home = true
+may_stand_after (Some d) kind home = may_precede d kind home
 
 abbrev pub MayBeLogged : Geometry → Delta → Type 0
 MayBeLogged g d = may_be_logged g d.kind d.home d.len ≡ true
 
--- what may stand behind the last delta may stand behind each
+-- what may stand after the last delta may stand after each
 pub record InOrder (g : Geometry) (deltas : List Delta) : Type 0 where
   pub last_logged : IfSome (last_of deltas) (MayBeLogged g)
-  pub last_decides : (kind : DeltaKind) (home : ℕ) → list_all (λ d. may_precede d kind home) deltas ≡ may_stand_behind (last_of deltas) kind home
+  pub last_decides : (kind : DeltaKind) (home : ℕ) → list_all (λ d. may_precede d kind home) deltas ≡ may_stand_after (last_of deltas) kind home

@@ -4,7 +4,7 @@ ghost use Rattle.volume_model.specs.Log.{is_home_of, is_part_of_block, may_be_lo
 ghost use Rattle.lufs_base.specs.declared.delta.Delta.{Delta};
 ghost use Rattle.lufs_base.specs.declared.geometry.Geometry.{Geometry};
 ghost use Rattle.log_format.specs.declared.records.RunError.TheVariants.{Mem};
-ghost use Rattle.log_format.specs.InOrder.{InOrder, last_of, may_stand_behind};
+ghost use Rattle.log_format.specs.InOrder.{InOrder, last_of, may_stand_after};
 ghost use Rattle.log_format.specs.Answers.{IsFront, LoggedIsNext, IsRun};
 
 use crate::kinds::{COMMIT, HEAD, kind_of, logged_len};
@@ -28,7 +28,7 @@ pub enum Run {
 pub enum RunError {
     /// A record breaks a rule of the log.
     Bad,
-    /// Memory was wanted.
+    /// Out of memory.
     Mem,
 }
 
@@ -120,7 +120,7 @@ fn may_precede(d: &Delta, kind: DeltaKind, home: u64) -> bool
     !(is_cancel(d.kind) || is_cancel(kind)) || d.home / BLOCK as u64 != home / BLOCK as u64
 }
 
-// Whether the bytes are the commit record behind these deltas, with nothing but zeros behind it up to
+// Whether the bytes are the commit record after these deltas, with nothing but zeros after it up to
 // the end of its sector, the last of the run.
 fn is_commit(tid: u32, before: &[Delta], bytes: &[u8]) -> bool
     requires { 16 ≤ length bytes.now }
@@ -132,9 +132,9 @@ fn is_commit(tid: u32, before: &[Delta], bytes: &[u8]) -> bool
         && are_zeros(&bytes[HEAD..])
 }
 
-// Whether a delta of this kind and home may stand behind the last of these.
-fn may_stand_behind_last(before: &[Delta], kind: DeltaKind, home: u64) -> bool
-    ensures { result ≡ may_stand_behind (last_of before.now) kind home }
+// Whether a delta of this kind and home may stand after the last of these.
+fn may_stand_after_last(before: &[Delta], kind: DeltaKind, home: u64) -> bool
+    ensures { result ≡ may_stand_after (last_of before.now) kind home }
 {
     match before.last() {
         None => true,
@@ -142,8 +142,8 @@ fn may_stand_behind_last(before: &[Delta], kind: DeltaKind, home: u64) -> bool
     }
 }
 
-// What stands at the front of the bytes, behind these deltas of the transaction. Only the last of them
-// is looked at, since what may stand behind it may stand behind each.
+// What stands at the front of the bytes, after these deltas of the transaction. Only the last of them
+// is looked at, since what may stand after it may stand after each.
 #[tactic(auto, unfolding(volume_model::specs::Log::LogRun::front_of))]
 fn read_front(
     alloc: Global,
@@ -175,7 +175,7 @@ fn read_front(
     if !may_be_logged(g, kind, home, len) {
         return Ok(Front::Wrong);
     }
-    if !may_stand_behind_last(before, kind, home) {
+    if !may_stand_after_last(before, kind, home) {
         return Ok(Front::Wrong);
     }
     let size = logged_len(kind, len) as usize;

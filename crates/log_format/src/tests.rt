@@ -237,8 +237,8 @@ fn runs_and_transactions(rt: HostRuntime) -> Result<(), Fail> {
             1,
             Told::Bad,
         ),
-        ("byte behind the commit", &INODE[..], (500, 1), 1, Told::Bad),
-        ("sector behind the commit", &INODE[..], (0, 0), 2, Told::Bad),
+        ("byte after the commit", &INODE[..], (500, 1), 1, Told::Bad),
+        ("sector after the commit", &INODE[..], (0, 0), 2, Told::Bad),
         (
             "falling homes",
             &ZEROS_AND_POINTERS[..],

@@ -53,7 +53,7 @@ fn put_deltas(out: &mut [u8], deltas: &[Delta]) -> usize
     at
 }
 
-// Writes the records of the deltas and the commit record to the front, and zeros behind them.
+// Writes the records of the deltas and the commit record to the front, and zeros after them.
 fn put_records(out: &mut [u8], deltas: &[Delta], tid: u32)
     requires count { length deltas.now < 2 ^ 32 }
     requires fits { length (records_of deltas.now tid) ≤ length out.old }
@@ -74,7 +74,7 @@ fn make_sector(out: &mut [u8], i: usize, trailer: &Trailer)
 }
 
 // Makes sectors of the payload that stands at the front. The last one is made first, since it lies
-// behind all that is still to be read.
+// after all that is still to be read.
 fn make_sectors(out: &mut [u8], trailer: &Trailer)
     requires { length out.old % 512 ≡ 0 }
     ensures { out.new ≡ carrying trailer.now (take (504 * (length out.old / 512)) out.old) }
@@ -87,7 +87,7 @@ fn make_sectors(out: &mut [u8], trailer: &Trailer)
 }
 
 /// Writes the sectors of transaction `tid` (`docs/FORMAT.md`, "Log records"): the records of the deltas
-/// and the commit record, with a trailer behind each 504 bytes of them, and zeros to the end of the last
+/// and the commit record, with a trailer after each 504 bytes of them, and zeros to the end of the last
 /// sector's payload. `out` is exactly these sectors.
 pub fn write_tx(deltas: &DeltaList, tid: u32, ident: u32, out: &mut [u8])
     requires deltas { (g : Geometry) × IsGeometry g × AreLoggable g deltas.now }

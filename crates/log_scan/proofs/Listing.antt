@@ -10,7 +10,7 @@ use Rattle.lufs_base.specs.declared.geometry.Geometry.{Geometry}
 use Rattle.lufs_base.specs.declared.delta.Delta.{Delta}
 use Rattle.volume_model.specs.declared.log.Header.{Header}
 use Rattle.volume_model.specs.declared.log.Tx.{Tx}
-use Rattle.volume_model.specs.Log.{Run, Short, Whole, run_of, run_behind, front_of, belongs_to, Transactions, Listed, BadRun, with_tx, row_of, payload_of, transactions_at, transactions_from}
+use Rattle.volume_model.specs.Log.{Run, Short, Whole, run_of, run_after, front_of, belongs_to, Transactions, Listed, BadRun, with_tx, row_of, payload_of, transactions_at, transactions_from}
 use Rattle.volume_model.specs.Format.{sector, sectors_of, sectors_in}
 use Rattle.log_scan.proofs.RingSteps.{length-row_of}
 
@@ -40,7 +40,7 @@ by_run g h tid at sectors more rest payload run count joined is =
 
 -- no bytes are no transaction
 pub empty_is_short : (g : Geometry) (tid : ℕ) → run_of g tid [] ≡ Short
-unfolding run_behind front_of
+unfolding run_after front_of
 empty_is_short g tid = refl
 
 -- the parts of bytes are bytes
@@ -78,7 +78,7 @@ unfolding transactions_from
 no_number_above g h zero tid at rest high are = refl
 no_number_above g h (suc more) tid at rest high are = by_run g h tid at 0 more rest [] Short (no_row h.epoch tid rest high are) refl (empty_is_short g tid)
 
--- the listing goes on behind the transaction at its front
+-- the listing goes on after the transaction at its front
 pub listing_more : (g : Geometry) (h : Header) (tid at sectors : ℕ) (txs more : List Tx) (tx : Tx) (ring : List (List ℕ)) (whole : Transactions)
     → ((n : ℕ) → transactions_from g (ring_of g) h (suc n) tid at (drop at ring) ≡ with_tx tx (transactions_from g (ring_of g) h n (tid + 1) (at + sectors) (drop sectors (drop at ring))))
     → more ≡ txs ++ tx ∷ [] → length txs < ring_of g

@@ -1,10 +1,10 @@
--- What the answers of this crate say. Want of memory and a fault of the disk say nothing of the log.
+-- What the answers of this crate say. Lack of memory and a fault of the disk say nothing of the log.
 use Rattle.std.specs.Prelude.{◌≡◌, ℕ, suc, ◌+◌, List, [], drop, Option, Some, None, Result, Ok, Err}
 use Rattle.lufs_base.specs.Layout.{ring_of}
 use Rattle.lufs_base.specs.declared.geometry.Geometry.{Geometry}
 use Rattle.volume_model.specs.declared.log.Header.{Header}
 use Rattle.volume_model.specs.declared.log.Tx.{Tx}
-use Rattle.volume_model.specs.Log.{Log, NoHeader, Behind, Transactions, Listed, BadRun, with_tx, transactions_from}
+use Rattle.volume_model.specs.Log.{Log, NoHeader, WithHeader, Transactions, Listed, BadRun, with_tx, transactions_from}
 use Rattle.log_scan.specs.declared.geometry.GeometryError.{GeometryError}
 use Rattle.log_scan.specs.declared.geometry.GeometryError.TheVariants.{NotVolume, Disk as geometry_unread}
 use Rattle.log_scan.specs.declared.log.ScanError.{ScanError}
@@ -31,8 +31,8 @@ IsListing listing (Err no_memory) = Unit {0}
 
 -- the answer tells the log
 abbrev pub IsScan : Log → Result (Header × List Tx) ScanError → Type 0
-IsScan log (Ok found) = log ≡ Behind found.0 (Listed found.1)
-IsScan log (Err (BadLog tid place)) = (h : Header) × (log ≡ Behind h (BadRun tid place))
+IsScan log (Ok found) = log ≡ WithHeader found.0 (Listed found.1)
+IsScan log (Err (BadLog tid place)) = (h : Header) × (log ≡ WithHeader h (BadRun tid place))
 IsScan log (Err BadHeader) = log ≡ NoHeader
 IsScan log (Err Disk) = Unit {0}
 IsScan log (Err no_memory) = Unit {0}

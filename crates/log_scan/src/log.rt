@@ -23,7 +23,7 @@ pub enum ScanError {
     BadHeader,
     /// The run of transaction `tid`, which begins at this place of the ring, breaks a rule of the log.
     BadLog { tid: u32, place: u32 },
-    /// Memory was wanted.
+    /// Out of memory.
     Mem,
 }
 
@@ -59,7 +59,7 @@ impl From<AllocError> for ScanError {
     }
 }
 
-// The place in the ring of the sector `at` behind the head.
+// The place in the ring of the sector `at` after the head.
 fn place_of(g: &Geometry, header: &Header, at: usize) -> u32
     requires geometry { IsGeometry g.now }
     requires head { header.now.head < ring_of g.now }
@@ -69,7 +69,7 @@ fn place_of(g: &Geometry, header: &Header, at: usize) -> u32
     (header.head + at as u32) % g.ring()
 }
 
-// The transaction that stands from sector `at` behind the head on, unless the log ends there. The ring
+// The transaction that stands from sector `at` after the head on, unless the log ends there. The ring
 // begins at its head.
 fn read_tx(
     alloc: Global,
@@ -189,8 +189,8 @@ fn read_transactions<D: Disk>(
     transactions(alloc, geometry, header, ring)
 }
 
-/// Reads the log of a volume, each sector of the ring once. It fails where a read failed, memory was
-/// wanted, or the log is none or bad, and says which.
+/// Reads the log of a volume, each sector of the ring once. It fails where a read failed, there was no
+/// memory, or the log is none or bad, and says which.
 pub fn scan<D: Disk>(
     alloc: Global,
     disk: &mut D,

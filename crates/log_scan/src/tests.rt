@@ -132,7 +132,7 @@ fn logs_of_one_sector(rt: HostRuntime) {
         ("other epoch", (0, 508, 2), Ok(None)),
         ("commit of another number", (0, 148, 2), Err(bad)),
         ("commit of another count", (0, 152, 2), Err(bad)),
-        ("byte behind the commit", (0, 160, 1), Err(bad)),
+        ("byte after the commit", (0, 160, 1), Err(bad)),
     ] {
         assert_eq!(rt; find(rt.alloc(), 0, &ROOT, change, &[]), want, "{what}");
     }

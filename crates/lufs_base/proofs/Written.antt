@@ -1,4 +1,4 @@
--- What a slice holds after a write: through its rest from a byte on, and behind an earlier write.
+-- What a slice holds after a write: through its rest from a byte on, and after an earlier write.
 use Rattle.std.proofs.Common.{◌≡◌, ℕ, ◌+◌, ◌-◌, ◌≤◌, List, [], ◌++◌, length, take, drop, ap, sym, ◌∙◌, arith, length-append, length-drop}
 use Rattle.std.proofs.lemmas.List.{append_assoc, append-nil, drop-drop, drop_all, length-take-le, take_rest}
 use Rattle.std.proofs.Math.Seq.{take-append_seam, drop-append-add}
@@ -14,7 +14,7 @@ put_mid_is_put_at out bytes part at n fits size is =
     let end : drop (length out - at) (drop at out) ≡ [] = drop_all (length out - at) (drop at out) (omega (arith, length-drop at out)) in
     ap (λ (l : List ℕ). take at out ++ (part ++ l)) end ∙ ap (λ (l : List ℕ). take at out ++ l) (append-nil part ∙ rest)
 
--- bytes that are written directly behind those from byte `from` on
+-- bytes that are written directly after those from byte `from` on
 pub put_at_behind : (front bytes old : List ℕ) (from at : ℕ) → from ≤ length old → at ≡ from + length front
     → put_at (put_at old from front) at bytes ≡ put_at old from (front ++ bytes)
 put_at_behind front bytes old from at fits is =

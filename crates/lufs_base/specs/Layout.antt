@@ -61,7 +61,7 @@ ring_place g place = 25 + place
 abbrev pub need_of : Geometry → ℕ
 need_of g = 8000 + 432 * g.groups
 
--- the byte address of an inode's record: 128 bytes each, from the block behind the group block on
+-- the byte address of an inode's record: 128 bytes each, from the block after the group block on
 abbrev pub inode_address : Geometry → ℕ → ℕ
 inode_address g i = 4096 * (group_start g (i / g.ipg) + 1) + 128 * (i % g.ipg)
 

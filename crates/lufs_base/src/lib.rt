@@ -4,14 +4,15 @@
 
 mod bytes;
 mod delta;
+mod errors;
 mod fields;
 mod geometry;
 mod name;
 mod numbers;
-mod wants;
 
 pub use bytes::Bytes;
 pub use delta::{Delta, DeltaKind, DeltaList};
+pub use errors::{DiskFault, Mem};
 pub use fields::{
     are_zeros, clear, get_u16, get_u32, get_u64, its_bytes_alone, one_spelling, put_u16, put_u32,
     put_u64, read_back, spelled_again,
@@ -21,7 +22,6 @@ pub use geometry::{
 };
 pub use name::{Name, is_name};
 pub use numbers::{BlockNo, Epoch, Ino, Tid};
-pub use wants::{DiskFault, Mem};
 
 #[cfg(test)]
 mod tests;

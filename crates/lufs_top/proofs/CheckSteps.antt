@@ -6,7 +6,7 @@ use Rattle.volume_model.specs.declared.finding.Verdict.{Verdict}
 use Rattle.volume_model.specs.declared.log.Header.{Header}
 use Rattle.volume_model.specs.declared.log.Tx.{Tx}
 use Rattle.volume_model.specs.Format.{Image, block, geometry_of}
-use Rattle.volume_model.specs.Log.{Behind, Listed, log_of, recovered, recovered_by, replayed}
+use Rattle.volume_model.specs.Log.{WithHeader, Listed, log_of, recovered, recovered_by, replayed}
 use Rattle.volume_model.specs.Sound.{verdict_of}
 use Rattle.volume_model.specs.Texts.{verdict_of_image}
 use Rattle.sector_disk.specs.Disk.{DiskTold, FailsJustAt}
@@ -42,11 +42,11 @@ error_found (scans.BadLog tid place) image g geometry log = (g, log.0, geometry,
 error_found scans.Mem image g geometry log = tt
 
 -- a log that was read is replayed
-pub replayed_is_recovered : (g : Geometry) (image : Image) (h : Header) (txs : List Tx) → log_of g image ≡ Behind h (Listed txs) → recovered g image ≡ Some (replayed image txs)
+pub replayed_is_recovered : (g : Geometry) (image : Image) (h : Header) (txs : List Tx) → log_of g image ≡ WithHeader h (Listed txs) → recovered g image ≡ Some (replayed image txs)
 replayed_is_recovered g image h txs log = ap (recovered_by image) log
 
 -- the verdict on the content with the log replayed is that on the image
-pub verdict_found : (image : Image) (g : Geometry) (h : Header) (txs : List Tx) (verdict : Verdict) → geometry_of image ≡ Some g → log_of g image ≡ Behind h (Listed txs)
+pub verdict_found : (image : Image) (g : Geometry) (h : Header) (txs : List Tx) (verdict : Verdict) → geometry_of image ≡ Some g → log_of g image ≡ WithHeader h (Listed txs)
     → verdict ≡ verdict_of g (block (replayed image txs)) → verdict_of_image image ≡ Some verdict
 verdict_found image g h txs verdict geometry log is =
     ap (option_and_then (λ (k : Geometry). option_map (λ (content : Image). verdict_of k (block content)) (recovered k image))) geometry
@@ -70,7 +70,7 @@ verdict_after g disk txs laid result index is = of_present disk.present is
 
 -- what was found where the volume was checked
 pub checked_of : (image : Image) (g : Geometry) (h : Header) (txs : List Tx) (answer : Result Verdict StoreError) (result : Result CheckEnding StoreError) → geometry_of image ≡ Some g
-    → log_of g image ≡ Behind h (Listed txs) → IsVerdictAfter g txs image answer → MatchResult answer (λ verdict. IsOkAnd result (λ found. found ≡ Checked verdict)) (λ error. result ≡ Err error)
+    → log_of g image ≡ WithHeader h (Listed txs) → IsVerdictAfter g txs image answer → MatchResult answer (λ verdict. IsOkAnd result (λ found. found ≡ Checked verdict)) (λ error. result ≡ Err error)
     → IfOk result (IsCheckOf image)
 checked_of image g h txs (Ok verdict) (Ok found) geometry log is made = subst (IsCheckOf image) (sym made) (verdict_found image g h txs verdict geometry log (is h log))
 checked_of image g h txs answer (Err error) geometry log is made = tt

@@ -6,7 +6,7 @@ use Rattle.volume_model.specs.Format.{Image, geometry_of}
 use Rattle.volume_model.specs.declared.log.Header.{Header}
 use Rattle.volume_model.specs.declared.log.Tx.{Tx}
 use Rattle.volume_model.specs.Texts.{scan_text, text_of_log, scan_text_of}
-use Rattle.volume_model.specs.Log.{Behind, Listed, log_of}
+use Rattle.volume_model.specs.Log.{WithHeader, Listed, log_of}
 use Rattle.log_scan.specs.Answers.{IsScan}
 use Rattle.log_scan.specs.declared.log.ScanError.{ScanError}
 use Rattle.log_scan.specs.declared.log.ScanError.TheVariants as scans
@@ -20,7 +20,7 @@ if_both P Q R None (Some x) same step p q = absurd (cc (same))
 if_both P Q R (Some y) (Some x) same step p q = let at : y ≡ x = cc (same) in step x p (rw at at q)
 
 -- the text of a log that was read is that of the image
-pub listing : (image : Image) (g : Geometry) (h : Header) (txs : List Tx) → geometry_of image ≡ Some g → log_of g image ≡ Behind h (Listed txs) → scan_text_of image ≡ Some (scan_text g h txs)
+pub listing : (image : Image) (g : Geometry) (h : Header) (txs : List Tx) → geometry_of image ≡ Some g → log_of g image ≡ WithHeader h (Listed txs) → scan_text_of image ≡ Some (scan_text g h txs)
 unfolding scan_text_of
 listing image g h txs geometry read =
     ap (option_and_then (λ (k : Geometry). text_of_log k (log_of k image))) geometry ∙ ap (text_of_log g) read

@@ -4,7 +4,7 @@ use Rattle.std.specs.Prelude.{IfSome, option_and_then, option_map}
 use Rattle.lufs_base.specs.declared.geometry.Geometry.{Geometry}
 use Rattle.volume_model.specs.declared.finding.Verdict.TheVariants.{Clean, Finding}
 use Rattle.volume_model.specs.Format.{Image, block, geometry_of}
-use Rattle.volume_model.specs.Log.{Log, NoHeader, Behind, BadRun as BadLogRun, log_of, recovered, recovered_by}
+use Rattle.volume_model.specs.Log.{Log, NoHeader, WithHeader, BadRun as BadLogRun, log_of, recovered, recovered_by}
 use Rattle.volume_model.specs.Sound.{verdict_of}
 use Rattle.volume_model.specs.Texts.{verdict_of_image}
 use Rattle.sector_disk.specs.Disk.{DiskTold}
@@ -109,7 +109,7 @@ found_told NotVolume image status is tells = unread_told 6 image status (no_geom
 found_told BadHeader image status is tells =
     unread_told 11 image status (no_log image is.0 NoHeader is.1 is.2 refl) tells (λ one. omega (arith, one)) (λ one. omega (arith, one)) (λ one. omega (arith, one)) (λ one. omega (arith, one))
 found_told (BadRun tid place) image status is tells =
-    unread_told 11 image status (no_log image is.0 (Behind is.1 (BadLogRun tid place)) is.2 is.3 refl) tells (λ one. omega (arith, one)) (λ one. omega (arith, one)) (λ one. omega (arith, one)) (λ one. omega (arith, one))
+    unread_told 11 image status (no_log image is.0 (WithHeader is.1 (BadLogRun tid place)) is.2 is.3 refl) tells (λ one. omega (arith, one)) (λ one. omega (arith, one)) (λ one. omega (arith, one)) (λ one. omega (arith, one))
 
 -- the same of each ending of a check of a disk that tells its image
 ending_told : (ending : Ending) (volume : List ℕ) (told : DiskTold) (image : Image) (status : ℕ) → told.present ≡ Some image → IsCheckEnding volume told ending → Tells (status_of ending) status → IsVerdictStatus image status

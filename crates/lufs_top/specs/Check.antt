@@ -5,7 +5,7 @@ use Rattle.volume_model.specs.declared.finding.Verdict.{Verdict}
 use Rattle.volume_model.specs.declared.log.Header.{Header}
 use Rattle.volume_model.specs.declared.log.Tx.{Tx}
 use Rattle.volume_model.specs.Format.{Image, block, geometry_of}
-use Rattle.volume_model.specs.Log.{NoHeader, Behind, Listed, BadRun as BadLogRun, log_of, replayed}
+use Rattle.volume_model.specs.Log.{NoHeader, WithHeader, Listed, BadRun as BadLogRun, log_of, replayed}
 use Rattle.volume_model.specs.Sound.{verdict_of}
 use Rattle.volume_model.specs.Texts.{verdict_of_image}
 use Rattle.sector_disk.specs.Disk.{DiskTold}
@@ -25,11 +25,11 @@ abbrev pub IsCheckOf : Image → CheckEnding → Type 0
 IsCheckOf image (Checked verdict) = verdict_of_image image ≡ Some verdict
 IsCheckOf image NotVolume = geometry_of image ≡ None
 IsCheckOf image BadHeader = (g : Geometry) × (geometry_of image ≡ Some g) × (log_of g image ≡ NoHeader)
-IsCheckOf image (BadRun tid place) = (g : Geometry) × (h : Header) × (geometry_of image ≡ Some g) × (log_of g image ≡ Behind h (BadLogRun tid place))
+IsCheckOf image (BadRun tid place) = (g : Geometry) × (h : Header) × (geometry_of image ≡ Some g) × (log_of g image ≡ WithHeader h (BadLogRun tid place))
 
 -- the answer is the verdict on the image with these transactions replayed, if they are those of its log
 abbrev pub IsVerdictAfter : Geometry → List Tx → Image → Result Verdict StoreError → Type 0
-IsVerdictAfter g txs image result = (h : Header) → log_of g image ≡ Behind h (Listed txs) → IfOk result (λ verdict. verdict ≡ verdict_of g (block (replayed image txs)))
+IsVerdictAfter g txs image result = (h : Header) → log_of g image ≡ WithHeader h (Listed txs) → IfOk result (λ verdict. verdict ≡ verdict_of g (block (replayed image txs)))
 
 -- what was found where the log gave this error, or why the check stopped
 abbrev pub ended_by : ScanError → Result CheckEnding StoreError

@@ -8,7 +8,7 @@ use Rattle.lufs_top.specs.declared.numbers.BadNumber.{BadNumber}
 use Rattle.lufs_top.specs.declared.numbers.GeometryWord.{GeometryWord}
 use Rattle.lufs_top.specs.declared.numbers.GeometryWord.TheVariants.{Groups, Bpg, Ipg, Log, Sectors}
 
--- the number that digits give, behind the digits of n
+-- the number that digits give, after the digits of n
 abbrev pub digits_from : ℕ → List ℕ → ℕ
 digits_from n [] = n
 digits_from n (c ∷ cs) = digits_from (10 * n + (c - 48)) cs

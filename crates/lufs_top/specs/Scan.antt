@@ -3,7 +3,7 @@ use Rattle.std.specs.Prelude.{◌≡◌, ℕ, List, Some, None, IfSome, Result, 
 use Rattle.lufs_base.specs.declared.geometry.Geometry.{Geometry}
 use Rattle.volume_model.specs.declared.log.Header.{Header}
 use Rattle.volume_model.specs.Format.{Image, geometry_of}
-use Rattle.volume_model.specs.Log.{NoHeader, Behind, BadRun as BadLogRun, log_of}
+use Rattle.volume_model.specs.Log.{NoHeader, WithHeader, BadRun as BadLogRun, log_of}
 use Rattle.volume_model.specs.Texts.{scan_text_of}
 use Rattle.sector_disk.specs.Disk.{DiskTold}
 use Rattle.host_io.specs.Outside.{Outside}
@@ -22,7 +22,7 @@ abbrev pub IsScanOf : Image → ScanEnding → Type 0
 IsScanOf image (Listed text) = scan_text_of image ≡ Some (string_bytes text)
 IsScanOf image NotVolume = geometry_of image ≡ None
 IsScanOf image BadHeader = (g : Geometry) × (geometry_of image ≡ Some g) × (log_of g image ≡ NoHeader)
-IsScanOf image (BadRun tid place) = (g : Geometry) × (h : Header) × (geometry_of image ≡ Some g) × (log_of g image ≡ Behind h (BadLogRun tid place))
+IsScanOf image (BadRun tid place) = (g : Geometry) × (h : Header) × (geometry_of image ≡ Some g) × (log_of g image ≡ WithHeader h (BadLogRun tid place))
 
 -- what was found where the log gave this error, or why the scan stopped
 abbrev pub ended_by : ScanError → Result ScanEnding Stop

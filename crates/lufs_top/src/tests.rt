@@ -514,7 +514,7 @@ fn logs_of_one_transaction(rt: HostRuntime) -> Result<(), std::test::Fail> {
         ("first and third sector only", (25, 504, 0), 0, none),
         ("commit of another number", (26, 52, 2), 11, bad),
         ("commit of another count", (26, 56, 1), 11, bad),
-        ("byte behind the commit", (26, 64, 1), 11, bad),
+        ("byte after the commit", (26, 64, 1), 11, bad),
         ("deltas out of order", (25, 28, 0x25e00), 11, bad),
     ] {
         let image = volume(rt.alloc(), 792, &WRAPPED, change)?;

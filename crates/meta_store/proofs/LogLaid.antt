@@ -14,7 +14,7 @@ use Rattle.lufs_base.specs.declared.delta.DeltaKind.TheVariants.{Group, Inode, C
 use Rattle.volume_model.specs.declared.log.Header.{Header}
 use Rattle.volume_model.specs.declared.log.Tx.{Tx}
 use Rattle.volume_model.specs.Format.{Image}
-use Rattle.volume_model.specs.Log.{Transactions, Listed, BadRun, Log, Behind, Run, Whole, Short, Bad, may_be_logged, is_part_of_block, is_cancel, is_zero_block, with_tx, transactions_at, transactions_from, row_of, payload_of, run_of, ring_from, log_behind, log_with, log_of, cancels, live_deltas, byte_of, given_at, replayed, recovered, recovered_by}
+use Rattle.volume_model.specs.Log.{Transactions, Listed, BadRun, Log, WithHeader, Run, Whole, Short, Bad, may_be_logged, is_part_of_block, is_cancel, is_zero_block, with_tx, transactions_at, transactions_from, row_of, payload_of, run_of, ring_from, log_after, log_with, log_of, cancels, live_deltas, byte_of, given_at, replayed, recovered, recovered_by}
 use Rattle.volume_model.proofs.ReplayLaws.{length-replayed, byte_replayed}
 use Rattle.log_format.proofs.WholeRun.{whole_loggable}
 use Rattle.meta_store.specs.LaidSize.{length-laid_over}
@@ -145,22 +145,22 @@ from_within g places h (suc n) tid at ring txs is =
     by_run g tid ((h.head + at) % places) (length row) (payload_of row) (run_of g tid (payload_of row)) (λ _. transactions_from g places h n (tid + 1) (at + length row) (drop (length row) ring)) txs refl
     (λ later more. from_within g places h n (tid + 1) (at + length row) (drop (length row) ring) later more) is
 
-by_header : (g : Geometry) (at_place : ℕ → List ℕ) (found : Option Header) (h : Header) (txs : List Tx) → log_behind g at_place found ≡ Behind h (Listed txs) → AreWithinBlocks txs
+by_header : (g : Geometry) (at_place : ℕ → List ℕ) (found : Option Header) (h : Header) (txs : List Tx) → log_after g at_place found ≡ WithHeader h (Listed txs) → AreWithinBlocks txs
 by_header g at_place None h txs is = absurd (cc)
 by_header g at_place (Some found) h txs is =
     let ring : List (List ℕ) = ring_from (ring_of g) found.head at_place in
     let from : transactions_from g (ring_of g) found (suc (ring_of g)) found.tid 0 ring ≡ Listed txs = cc in
     from_within g (ring_of g) found (suc (ring_of g)) found.tid 0 ring txs from
 
-by_sectors : (g : Geometry) (header : List ℕ) (at_place : ℕ → List ℕ) (h : Header) (txs : List Tx) → log_with g header at_place ≡ Behind h (Listed txs) → AreWithinBlocks txs
+by_sectors : (g : Geometry) (header : List ℕ) (at_place : ℕ → List ℕ) (h : Header) (txs : List Tx) → log_with g header at_place ≡ WithHeader h (Listed txs) → AreWithinBlocks txs
 unfolding log_with
 by_sectors g header at_place h txs is = by_header g at_place _ h txs is
 
 -- each delta of a log lies within one block
-pub log_within : (g : Geometry) (image : Image) (h : Header) (txs : List Tx) → log_of g image ≡ Behind h (Listed txs) → AreWithinBlocks txs
+pub log_within : (g : Geometry) (image : Image) (h : Header) (txs : List Tx) → log_of g image ≡ WithHeader h (Listed txs) → AreWithinBlocks txs
 log_within g image h txs is = by_sectors g _ _ h txs is
 
-pub recovered_laid : (g : Geometry) (image : Image) (h : Header) (txs : List Tx) (deltas_of : ℕ → List Delta) → log_of g image ≡ Behind h (Listed txs) → ((b : ℕ) → deltas_of b ≡ laid_on txs b)
+pub recovered_laid : (g : Geometry) (image : Image) (h : Header) (txs : List Tx) (deltas_of : ℕ → List Delta) → log_of g image ≡ WithHeader h (Listed txs) → ((b : ℕ) → deltas_of b ≡ laid_on txs b)
     → recovered g image ≡ Some (laid_over deltas_of image)
 recovered_laid g image h txs deltas_of is same =
     ap (λ (log : Log). recovered_by image log) is ∙ ap (λ (i : Image). Some i) (replay_laid image txs deltas_of same (log_within g image h txs is))

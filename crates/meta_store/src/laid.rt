@@ -4,7 +4,7 @@ ghost use Rattle.lufs_base.specs.declared.geometry.Geometry.{Geometry};
 ghost use Rattle.volume_model.specs.declared.log.Header.{Header};
 ghost use Rattle.volume_model.specs.declared.log.Tx.{Tx};
 ghost use Rattle.volume_model.specs.Format.{Image};
-ghost use Rattle.volume_model.specs.Log.{Behind, Listed, log_of, is_cancel, recovered};
+ghost use Rattle.volume_model.specs.Log.{WithHeader, Listed, log_of, is_cancel, recovered};
 ghost use Rattle.sector_disk.specs.Disk.{DiskTold};
 ghost use Rattle.meta_store.specs.declared.laid.LaidDeltas.{LaidDeltas};
 ghost use Rattle.meta_store.specs.Laid.{lays_on};
@@ -116,6 +116,6 @@ impl LaidDeltas {
 
 /// Over a disk whose log was read, a store with the index of this log laid over tells the recovered content.
 pub fn recovered_content()
-    ensures { (g : Geometry) (disk : DiskTold) (image : Image) (h : Header) (txs : List Tx) (laid : LaidDeltas) → disk.present ≡ Some image → log_of g image ≡ Behind h (Listed txs)
+    ensures { (g : Geometry) (disk : DiskTold) (image : Image) (h : Header) (txs : List Tx) (laid : LaidDeltas) → disk.present ≡ Some image → log_of g image ≡ WithHeader h (Listed txs)
         → IsIndexOf txs laid → (replayed_told g laid disk).content ≡ recovered g image }
 {}

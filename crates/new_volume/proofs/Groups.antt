@@ -25,7 +25,7 @@ length-root_inode g moment = refl
 pub length-root_chunk : length (block_with 0 (chunk_bytes (new_directory 2 2))) ≡ 4096
 length-root_chunk = refl
 
--- the groups behind the first one have no root
+-- the groups after the first one have no root
 not_first : (n : ℕ) → (suc n == 0) ≡ false
 not_first n = ne_eqb (suc n) 0 (λ same. omega (arith, same))
 

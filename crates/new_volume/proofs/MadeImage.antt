@@ -169,7 +169,7 @@ module _ (g : Geometry) (moment : ℕ) (ok : IsGeometry g) (image : Image) (room
   pub sealed_elsewhere : (k : ℕ) → k ≢ 16 → sector sealed k ≡ sector filled k
   sealed_elsewhere k other = other_sectors filled (super_bytes g) k (length-super g) (omega (arith, large, length-filled)) other
 
-  -- a block behind the superblock's is that of the groups' writes
+  -- a block after the superblock's is that of the groups' writes
   sealed_block : (b : ℕ) → 3 ≤ b → b < blocks_of g → block sealed b ≡ block filled b
   sealed_block b behind inside =
       same_block sealed filled b b (omega (arith, room, inside, length-sealed)) (omega (arith, room, inside, length-filled)) (λ j below.
@@ -261,7 +261,7 @@ module _ (g : Geometry) (moment : ℕ) (ok : IsGeometry g) (image : Image) (room
         | inr past ↦ subst P (sym (cond-false (nat_lt b (blocks_of g)) (made_in g moment b (region_of g b)) None past)) tt
       ]
 
-  -- a sector that nothing is made of lies behind or before the log
+  -- a sector that nothing is made of lies after or before the log
   outside_log : (k : ℕ) → made_block g moment (k / 8) ≡ None → (k < 24) ⊎ (24 + g.log ≤ k)
   outside_log k none = elim (cases_lt k 24) [
     | inl before ↦ inl before

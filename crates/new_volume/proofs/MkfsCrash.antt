@@ -218,7 +218,7 @@ module _ (g : Geometry) (moment : ℕ) (ok : IsGeometry g) (before : Image) (in_
       let none : written_to 16 (take m rest) ≡ [] = ap (written_to 16) front ∙ none_left (written_to 16 (take m (filling g moment))) (written_to 16 (drop m (filling g moment))) split in
       cleared_gives_none image (unwritten r m 16 image (inside_front (length cleared) m rest rest_is_of_sectors.calls) none h ∙ cleared_there)
 
-  -- a crash behind that
+  -- a crash after that
   while_sealing : (j : ℕ) (image : Image) → Outcome (record { opening = filled; calls = sealing (super_bytes g) }) j image → IsMkfsOutcome g moment before image
   while_sealing j image h =
       elim (sealing_leaves filled (super_bytes g) j image (length-super g) (omega (arith, in_sectors, length-filled)) (omega (arith, large, length-filled)) h) [

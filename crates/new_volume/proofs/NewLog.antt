@@ -10,7 +10,7 @@ use Rattle.lufs_base.specs.Layout.{IsGeometry, group_start, ring_of}
 use Rattle.lufs_base.specs.declared.geometry.Geometry.{Geometry}
 use Rattle.lufs_base.specs.declared.geometry.Region.TheVariants.{Log}
 use Rattle.volume_model.specs.Format.{Image, sector, block}
-use Rattle.volume_model.specs.Log.{header_of, header_bytes, front_of, run_behind, run_of, Behind, Listed, belongs_to, row_of, payload_of, transactions_at, transactions_from, ring_from, log_behind, log_with, log_of}
+use Rattle.volume_model.specs.Log.{header_of, header_bytes, front_of, run_after, run_of, WithHeader, Listed, belongs_to, row_of, payload_of, transactions_at, transactions_from, ring_from, log_after, log_with, log_of}
 use Rattle.volume_model.specs.MkfsImage.{made_header, block_with, IsMkfsImage}
 use Rattle.log_format.proofs.HeaderBytes.{header_reads}
 use Rattle.volume_model.specs.Sound.{HasNoLaterIdent}
@@ -48,14 +48,14 @@ zeros_have_ident_0 = refl
 
 -- a ring that begins with a sector of zeros has no transaction
 empty_log : (g : Geometry) (header : List ℕ) (at_place : ℕ → List ℕ) → 0 < ring_of g → header_of g header ≡ Some made_header → at_place 0 ≡ replicate 512 0
-    → log_with g header at_place ≡ Behind made_header (Listed [])
-unfolding log_with transactions_from run_behind front_of
+    → log_with g header at_place ≡ WithHeader made_header (Listed [])
+unfolding log_with transactions_from run_after front_of
 empty_log g header at_place some reads zeros =
     let first : (0 + 0) % ring_of g ≡ 0 = omega (arith, some) in
     let none : row_of 1 1 (ring_from (ring_of g) 0 at_place) ≡ [] =
     no_row (λ i. at_place ((0 + i) % ring_of g)) (ring_of g) (ap (λ (place : ℕ). belongs_to 1 1 (at_place place)) first ∙ ap (belongs_to 1 1) zeros ∙ zeros_belong_to_none) in
-    ap (log_behind g at_place) reads
-    ∙ ap (λ (row : List (List ℕ)). Behind made_header (transactions_at (run_of g 1 (payload_of row)) 1 ((0 + 0) % ring_of g) (length row)
+    ap (log_after g at_place) reads
+    ∙ ap (λ (row : List (List ℕ)). WithHeader made_header (transactions_at (run_of g 1 (payload_of row)) 1 ((0 + 0) % ring_of g) (length row)
     (λ _. transactions_from g (ring_of g) made_header (ring_of g) (1 + 1) (0 + length row) (drop (length row) (ring_from (ring_of g) 0 at_place))))) none
 
 -- the log of an image that mkfs made
@@ -96,7 +96,7 @@ module _ (g : Geometry) (moment : ℕ) (ok : IsGeometry g) (old made : Image) (i
   }
 
   -- no transaction is in it
-  pub new_log : log_of g made ≡ Behind made_header (Listed [])
+  pub new_log : log_of g made ≡ WithHeader made_header (Listed [])
   new_log =
       let some : 0 < ring_of g = omega (arith, ok.log_low) in
       empty_log g (sector made 24) (λ place. sector made (25 + place)) some header_reads_there (ring_there 0 some)

@@ -69,12 +69,12 @@ named_laid calls image size (chosen ∷ front) back out k j all is h away =
     let f = first_chosen calls image size chosen (front ++ ((k, j) ∷ back)) out all is h in
     named_laid calls (overwritten image chosen.0 f.value) size front back out k j all f.size_is f.rest away
 
--- the content at the flush has the record's size, and the calls behind it lie inside
-record Behind (r : Record) (n : ℕ) : Type 0 where
+-- the content at the flush has the record's size, and the calls after it lie inside
+record WithHeader (r : Record) (n : ℕ) : Type 0 where
   size_is : length (kept_at r n) ≡ length r.opening
   inside : AllInside (length r.opening) (pending (take n r.calls))
 
-behind_flush : (r : Record) (n : ℕ) → IsOfSectors r → Behind r n
+behind_flush : (r : Record) (n : ℕ) → IsOfSectors r → WithHeader r n
 behind_flush r n ok =
     let calls = take n r.calls in
     let size = length r.opening in

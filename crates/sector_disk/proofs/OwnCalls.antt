@@ -10,7 +10,7 @@ use Rattle.volume_model.proofs.Outcomes.{length-image_after}
 use Rattle.sector_disk.specs.Disk.{DiskTold, IsTold, GoesWith}
 use Rattle.sector_disk.specs.Continued.{IsCounted, IsAtRest, GoesOnWith, CrashLeaves}
 
--- the calls since then are those behind the first ones
+-- the calls since then are those after the first ones
 pub own_calls : (r : Record) (calls : ℕ) (since : List DeviceCall) → calls ≡ length r.calls → drop calls (r.calls ++ since) ≡ since
 own_calls r calls since count = ap (λ (k : ℕ). drop k (r.calls ++ since)) count ∙ drop-append_seam r.calls since
 

@@ -15,7 +15,7 @@ use volume_model::DeviceCall;
 pub enum CrashError {
     /// The sector was written fewer than `j` times since the last flush, or `j` is 0.
     NoSuch { sector: u64, j: u32 },
-    /// Memory was wanted.
+    /// Out of memory.
     Mem,
 }
 

@@ -146,7 +146,7 @@ fn crashes(rt: HostRuntime) -> Result<(), std::test::Fail> {
     assert!(rt; six_calls(&mut disk).is_err());
     assert_eq!(rt; disk.calls(), 6);
     for (n, choice, left) in [
-        // Before any call, and after the first two, of which none is behind a flush.
+        // Before any call, and after the first two, of which none is after a flush.
         (0, &[][..], Ok([0, 1, 2, 3])),
         (0, &[(0, 1)][..], no_such(0, 1)),
         (1, &[][..], Ok([0, 1, 2, 3])),
@@ -164,7 +164,7 @@ fn crashes(rt: HostRuntime) -> Result<(), std::test::Fail> {
         // The flush leaves one content.
         (3, &[][..], Ok([7, 8, 8, 3])),
         (3, &[(0, 1)][..], no_such(0, 1)),
-        // What was written behind it, with the write that failed.
+        // What was written after it, with the write that failed.
         (4, &[(2, 1)][..], Ok([7, 8, 9, 3])),
         (4, &[(2, 2)][..], no_such(2, 2)),
         (5, &[(2, 2)][..], Ok([7, 8, 5, 3])),

@@ -10,7 +10,7 @@ use Rattle.volume_model.proofs.Pieces.{field_again, zeros_again}
 use Rattle.volume_model.specs.Format.{is_geometry, named_geometry, super_of, super_bytes}
 use Rattle.ufs_super.proofs.SuperblockTests.{a_super, is_super_of}
 
--- the fields from one on, and the zeros behind them
+-- the fields from one on, and the zeros after them
 abbrev blocks_on : Geometry → List ℕ
 blocks_on g = field_bytes 4 (blocks_of g) ++ replicate 484 0
 

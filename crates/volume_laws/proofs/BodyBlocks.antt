@@ -23,7 +23,7 @@ none_before g ok b before = elim (cases_lt b 2) [
   ]
 ]
 
--- a block of a group is a body block behind the inode blocks
+-- a block of a group is a body block after the inode blocks
 pub body_at : (g : Geometry) → IsGeometry g → (n place : ℕ) → n < g.groups → place < g.bpg → is_body g (group_start g n + place) ≡ nat_lt (g.ipg / 32) place
 body_at g ok n place within below =
     let b = group_start g n + place in

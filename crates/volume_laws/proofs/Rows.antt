@@ -22,7 +22,7 @@ row_back (n ∷ numbers) rest fit =
     let others : numbers_in (length numbers) (numbers_bytes numbers ++ rest) ≡ numbers = row_back numbers rest (λ i. fit (suc i)) in
     cc
 
--- bytes are the row of the numbers that they read as, and what stands behind it
+-- bytes are the row of the numbers that they read as, and what stands after it
 pub row_again : (n : ℕ) (bytes rest : List ℕ) → AreBytes bytes → 4 * n ≤ length bytes → rest ≡ drop (4 * n) bytes
     → numbers_bytes (numbers_in n bytes) ++ rest ≡ bytes
 unfolding numbers_in

@@ -10,7 +10,7 @@ use Rattle.lufs_base.specs.Fields.{are_zeros}
 pub rest_is_bytes : (n : ℕ) (bytes : List ℕ) → AreBytes bytes → AreBytes (drop n bytes)
 rest_is_bytes n bytes are i = rw (get_or-drop n bytes i 0) (are (n + i))
 
--- bytes are the field of the number that they read as, and what stands behind it
+-- bytes are the field of the number that they read as, and what stands after it
 pub field_again : (n at next : ℕ) (bytes rest : List ℕ) → AreBytes bytes → next ≡ at + n → next ≤ length bytes
     → rest ≡ drop next bytes → field_bytes n (number_in n (drop at bytes)) ++ rest ≡ drop at bytes
 field_again n at next bytes rest are place fits behind =
@@ -34,7 +34,7 @@ length-put_at out bytes at fits =
     let rest = drop (at + length bytes) out in
     omega (arith, length-append (take at out) (bytes ++ rest), length-append bytes rest, length-take-le at out (omega arith), length-drop (at + length bytes) out)
 
--- one piece written behind another is both written at once
+-- one piece written after another is both written at once
 pub pieces : (out xs ys : List ℕ) (at next : ℕ) → next ≡ at + length xs → next + length ys ≤ length out
     → put_at (put_at out at xs) next ys ≡ put_at out at (xs ++ ys)
 pieces out xs ys at next place fits =

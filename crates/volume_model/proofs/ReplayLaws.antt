@@ -11,7 +11,7 @@ use Rattle.lufs_base.specs.declared.delta.Delta.{Delta}
 use Rattle.volume_model.specs.declared.log.Header.{Header}
 use Rattle.volume_model.specs.declared.log.Tx.{Tx}
 use Rattle.volume_model.specs.Format.{Image, sectors_from}
-use Rattle.volume_model.specs.Log.{Behind, Listed, log_of, cancels, live_deltas, byte_of, given_at, recovered_byte, replayed, recovered_by, recovered, IsElsewhere, IsUncovered}
+use Rattle.volume_model.specs.Log.{WithHeader, Listed, log_of, cancels, live_deltas, byte_of, given_at, recovered_byte, replayed, recovered_by, recovered, IsElsewhere, IsUncovered}
 
 pub length-replayed : (image : Image) (txs : List Tx) → length (replayed image txs) ≡ length image
 unfolding replayed
@@ -22,7 +22,7 @@ unfolding replayed
 byte_replayed image txs address below =
     get_or-map-range_with_len (recovered_byte image (live_deltas txs)) 0 (length image) address address 0 below (omega arith)
 
-pub nothing_replayed : (g : Geometry) (image : Image) (h : Header) → log_of g image ≡ Behind h (Listed []) → recovered g image ≡ Some image
+pub nothing_replayed : (g : Geometry) (image : Image) (h : Header) → log_of g image ≡ WithHeader h (Listed []) → recovered g image ≡ Some image
 nothing_replayed g image h is =
     let same : replayed image [] ≡ image = ext_get_or 0 (replayed image []) image (length-replayed image []) (λ i below. byte_replayed image [] i (omega (arith, below, length-replayed image []))) in
     ap (recovered_by image) is ∙ ap (λ (i : Image). Some i) same

@@ -19,7 +19,7 @@ same_sectors a b size each =
     ap (λ (n : ℕ). slice_index c n) (sym at) ∙ sym (byte_in_sector c (i / 512) (i % 512) (omega arith)) in
     byte a ∙ ap (λ (s : List ℕ). slice_index s (i % 512)) (each (i / 512)) ∙ sym (byte b))
 
--- no sector stands behind the end
+-- no sector stands after the end
 pub sector_past : (image : Image) (k : ℕ) → length image ≤ 512 * k → sector image k ≡ []
 sector_past image k past = ap (take 512) (drop_all (512 * k) image past)
 
@@ -60,7 +60,7 @@ sector_within image first bytes k i fits at inside =
     ∙ drop-append-le (512 * i) bytes (drop (512 * first + length bytes) image) (omega (arith, inside)) in
     ap (take 512) skip ∙ take-append-le 512 (drop (512 * i) bytes) (drop (512 * first + length bytes) image) (omega (arith, inside, length-drop (512 * i) bytes))
 
--- it leaves the sectors behind it
+-- it leaves the sectors after it
 pub sector_behind : (image : Image) (first : ℕ) (bytes : List ℕ) (k : ℕ) → 512 * first + length bytes ≤ length image → 512 * first + length bytes ≤ 512 * k
     → sector (overwritten image first bytes) k ≡ sector image k
 sector_behind image first bytes k fits past =

@@ -13,7 +13,7 @@ unfoldable pub use LogRecord.{type_of, commit_type, all_kinds, kind_of, logged_l
 pub use LogTx.{AreLoggable}
 unfoldable pub use LogTx.{tx_sectors, record_head, delta_record, commit_record, records_of, tx_payload, carrying, tx_row, tx_bytes}
 pub use LogRun.{Run, Whole, Short, Bad, Front, Logged, Commit, Cut, Wrong}
-unfoldable pub use LogRun.{front_delta, is_commit, is_delta, front_of_kind, front_of, run_at, run_behind, run_of}
-pub use Ring.{Transactions, Listed, BadRun, Log, NoHeader, Behind}
-unfoldable pub use Ring.{belongs_to, row_of, payload_of, with_tx, transactions_at, transactions_from, ring_from, log_behind, log_with, log_of}
+unfoldable pub use LogRun.{front_delta, is_commit, is_delta, front_of_kind, front_of, run_at, run_after, run_of}
+pub use Ring.{Transactions, Listed, BadRun, Log, NoHeader, WithHeader}
+unfoldable pub use Ring.{belongs_to, row_of, payload_of, with_tx, transactions_at, transactions_from, ring_from, log_after, log_with, log_of}
 unfoldable pub use Recovered.{cancels, live_deltas, byte_of, given_at, recovered_byte, replayed, recovered_by, recovered, IsElsewhere, IsUncovered}

@@ -3,7 +3,7 @@ ghost use Rattle.std.specs.Prelude.{◌≡◌, ◌+◌, ◌∷◌, ◌++◌, [],
 ghost use Rattle.std.specs.List.{range_with_len};
 ghost use Rattle.lufs_base.specs.declared.delta.DeltaKind.TheVariants.{Chunk};
 ghost use Rattle.volume_model.specs.Format.{super_of, super_bytes};
-ghost use Rattle.volume_model.specs.Log.{Listed, BadRun, NoHeader, Behind, log_with, replayed};
+ghost use Rattle.volume_model.specs.Log.{Listed, BadRun, NoHeader, WithHeader, log_with, replayed};
 ghost use Rattle.volume_model.specs.Texts.{scan_text};
 ghost use Rattle.volume_model.specs.Crash.{kept_at, written_since, present_of};
 ghost use Rattle.volume_model.specs.Worked.{smallest, superblock, header, worked_header, log_sector, root_delta, cut_chunk, commit, root_tx, log_of_sector, ring_of_sectors, empty_sector, empty_tx, wrapped_ring, turned_ring, full_ring, header_with, filled, two_sectors, text_at_0, zero_block_0, cancel_0, tx_of};
@@ -18,30 +18,30 @@ pub fn superblocks()
 /// What the log is with this sector in the first place of the ring.
 pub fn logs()
     ensures no_header { log_with smallest (replicate 512 0) (λ _. replicate 512 0) ≡ NoHeader }
-    ensures empty { log_of_sector (replicate 512 0) ≡ Behind header (Listed []) }
-    ensures committed { log_of_sector (log_sector (root_delta 2 ++ commit) 1 3) ≡ Behind header (Listed (root_tx ∷ [])) }
-    ensures bad_type { log_of_sector (log_sector (root_delta 9 ++ commit) 1 3) ≡ Behind header (BadRun 1 0) }
-    ensures other_epoch { log_of_sector (log_sector (root_delta 2 ++ commit) 1 2) ≡ Behind header (Listed []) }
-    ensures no_commit { log_of_sector (log_sector cut_chunk 1 3) ≡ Behind header (Listed []) }
-    ensures zeros_for_commit { log_of_sector (log_sector (root_delta 2) 1 3) ≡ Behind header (BadRun 1 0) }
+    ensures empty { log_of_sector (replicate 512 0) ≡ WithHeader header (Listed []) }
+    ensures committed { log_of_sector (log_sector (root_delta 2 ++ commit) 1 3) ≡ WithHeader header (Listed (root_tx ∷ [])) }
+    ensures bad_type { log_of_sector (log_sector (root_delta 9 ++ commit) 1 3) ≡ WithHeader header (BadRun 1 0) }
+    ensures other_epoch { log_of_sector (log_sector (root_delta 2 ++ commit) 1 2) ≡ WithHeader header (Listed []) }
+    ensures no_commit { log_of_sector (log_sector cut_chunk 1 3) ≡ WithHeader header (Listed []) }
+    ensures zeros_for_commit { log_of_sector (log_sector (root_delta 2) 1 3) ≡ WithHeader header (BadRun 1 0) }
 {}
 
 /// What the log is where a transaction goes on in the first place of the ring, where every place has a transaction, and what
 /// ends it.
 pub fn rings()
-    ensures wrapped { log_with smallest (header_with 254 1) wrapped_ring ≡ Behind (record { epoch = 3; head = 254; tid = 1 })
+    ensures wrapped { log_with smallest (header_with 254 1) wrapped_ring ≡ WithHeader (record { epoch = 3; head = 254; tid = 1 })
         (Listed (record { tid = 1; first = 254; sectors = 2; deltas = record { kind = Chunk; home = 0x26000; len = 512; bytes = replicate 512 1 } ∷ [] } ∷ [])) }
-    ensures turned { log_with smallest (header_with 254 1) turned_ring ≡ Behind (record { epoch = 3; head = 254; tid = 1 })
+    ensures turned { log_with smallest (header_with 254 1) turned_ring ≡ WithHeader (record { epoch = 3; head = 254; tid = 1 })
         (Listed (empty_tx 1 254 ∷ (empty_tx 2 0 ∷ []))) }
-    ensures full { log_with smallest (header_with 0 1) full_ring ≡ Behind (record { epoch = 3; head = 0; tid = 1 })
+    ensures full { log_with smallest (header_with 0 1) full_ring ≡ WithHeader (record { epoch = 3; head = 0; tid = 1 })
         (Listed (map (λ place. empty_tx (place + 1) place) (range_with_len 0 255))) }
-    ensures full_from_its_middle { log_with smallest (header_with 253 254) full_ring ≡ Behind (record { epoch = 3; head = 253; tid = 254 })
+    ensures full_from_its_middle { log_with smallest (header_with 253 254) full_ring ≡ WithHeader (record { epoch = 3; head = 253; tid = 254 })
         (Listed (empty_tx 254 253 ∷ (empty_tx 255 254 ∷ []))) }
-    // The sector behind it is of an older epoch, or has the number 0.
-    ensures stale_behind { log_with smallest (header_with 0 1) (ring_of_sectors (empty_sector 1 3 ∷ (empty_sector 2 2 ∷ []))) ≡ Behind (record { epoch = 3; head = 0; tid = 1 })
+    // The sector after it is of an older epoch, or has the number 0.
+    ensures stale_after { log_with smallest (header_with 0 1) (ring_of_sectors (empty_sector 1 3 ∷ (empty_sector 2 2 ∷ []))) ≡ WithHeader (record { epoch = 3; head = 0; tid = 1 })
         (Listed (empty_tx 1 0 ∷ [])) }
     ensures last_number { log_with smallest (header_with 0 0xffffffff) (ring_of_sectors (empty_sector 0xffffffff 3 ∷ (empty_sector 0 3 ∷ [])))
-        ≡ Behind (record { epoch = 3; head = 0; tid = 0xffffffff }) (Listed (empty_tx 0xffffffff 0 ∷ [])) }
+        ≡ WithHeader (record { epoch = 3; head = 0; tid = 0xffffffff }) (Listed (empty_tx 0xffffffff 0 ∷ [])) }
 {}
 
 /// What `scan` prints of an empty log, and of one with one transaction.

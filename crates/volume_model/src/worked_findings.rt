@@ -58,7 +58,7 @@ pub fn findings_of_pointer_blocks()
     ensures pointer_block_of_an_empty_file { verdict_of smallest (with_three (file 1 0 [] 38 1)) ≡ Finding Fields 3 }
     ensures pointer_block_of_twelve_blocks { verdict_of smallest (with_inode made 2 (directory 2 49152 (range_with_len 37 12) 49 13)) ≡ Finding Fields 2 }
     ensures directory_without_pointer_block { verdict_of smallest (with_inode with_large_root 2 (directory 2 49664 (range_with_len 37 12) 0 12)) ≡ Finding Fields 2 }
-    ensures free_inode_named_behind_it { verdict_of smallest (with_chunk with_large_root 50 0 (slot 3 512 (codes "a") ∷ [])) ≡ Finding Name 2 }
+    ensures free_inode_named_after_it { verdict_of smallest (with_chunk with_large_root 50 0 (slot 3 512 (codes "a") ∷ [])) ≡ Finding Name 2 }
 {}
 
 /// Names that are wrong: in the chunks of a directory, of free inodes, in the tree, and by the count of links.
@@ -101,7 +101,7 @@ pub fn findings_of_bits()
     ensures bit_of_a_free_block { verdict_of smallest (with_bits made 7 15) ≡ Finding BlockBit 38 }
     ensures bit_of_the_last_block { verdict_of smallest (changed made 35 167 (128 ∷ [])) ≡ Finding BlockBit 98 }
     ensures no_bit_of_a_pointer_block { verdict_of smallest (with_bits with_all 63 239) ≡ Finding BlockBit 39 }
-    ensures no_bit_behind_a_pointer_block { verdict_of smallest (with_bits with_all 63 223) ≡ Finding BlockBit 40 }
+    ensures no_bit_after_a_pointer_block { verdict_of smallest (with_bits with_all 63 223) ≡ Finding BlockBit 40 }
     ensures count_of_inodes { verdict_of smallest (with_counts made 30 61) ≡ Finding Count 0 }
     ensures count_of_blocks { verdict_of smallest (with_counts made 29 62) ≡ Finding Count 0 }
 {}

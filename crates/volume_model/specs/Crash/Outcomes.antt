@@ -25,16 +25,16 @@ abbrev pub flushed : List DeviceCall → List DeviceCall
 flushed [] = []
 flushed (call ∷ calls) = if list_any is_flush (call ∷ calls) then call ∷ flushed calls else []
 
--- the calls behind the last flush; all of them, if none is a flush
+-- the calls after the last flush; all of them, if none is a flush
 abbrev pub pending : List DeviceCall → List DeviceCall
 pending [] = []
 pending (call ∷ calls) = if list_any is_flush (call ∷ calls) then pending calls else call ∷ calls
 
--- no write is behind the last flush
+-- no write is after the last flush
 abbrev pub IsSettled : Record → Type 0
 IsSettled r = pending r.calls ≡ []
 
--- the record that begins behind the first n calls
+-- the record that begins after the first n calls
 abbrev pub record_from : Record → ℕ → Record
 record_from r n = record { opening = present_of (up_to r n); calls = drop n r.calls }
 

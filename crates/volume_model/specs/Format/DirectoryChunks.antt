@@ -8,7 +8,7 @@ use Rattle.lufs_base.specs.Name.{is_name, IsName}
 use Rattle.volume_model.specs.declared.directory.Slot.{Slot}
 
 -- The least bytes of a slot in use whose name has so many bytes: 8 bytes of numbers, the name, and a
--- zero byte behind it, up to a multiple of four.
+-- zero byte after it, up to a multiple of four.
 abbrev pub least_length : ℕ → ℕ
 least_length name_length = 8 + 4 * ((name_length + 4) / 4)
 
@@ -20,7 +20,7 @@ slot_at bytes = record {
   name = if u32_at bytes 0 == 0 then [] else take (u16_at bytes 6) (drop 8 bytes);
 }
 
--- the bytes of a slot have a right name, a zero byte behind it, and room for both
+-- the bytes of a slot have a right name, a zero byte after it, and room for both
 abbrev pub is_named : List ℕ → Bool
 is_named bytes =
     nat_le (least_length (u16_at bytes 6)) (u16_at bytes 4) && is_name (take (u16_at bytes 6) (drop 8 bytes))
@@ -77,7 +77,7 @@ abbrev pub room_in : List Slot → List ℕ → Option ℕ
 room_in slots name = position (λ s. nat_le (least_length (length name)) (s.len - kept_length s)) slots
 
 -- The slots in the place of one that takes a name: an unused slot is taken over, and one in use is
--- cut to what it can't spare, with a new slot behind it.
+-- cut to what it can't spare, with a new slot after it.
 abbrev pub entered : Slot → List ℕ → ℕ → List Slot
 entered s name i =
     if s.ino == 0 then record s { ino = i; name = name } ∷ []
@@ -99,7 +99,7 @@ with_ino [] place i = []
 with_ino (s ∷ slots) zero i = record s { ino = i } ∷ slots
 with_ino (s ∷ slots) (suc place) i = s ∷ with_ino slots place i
 
--- the slot at this place, behind slot s, gives its bytes to the slot before it
+-- the slot at this place, after slot s, gives its bytes to the slot before it
 abbrev pub joined : Slot → List Slot → ℕ → List Slot
 joined s [] place = s ∷ []
 joined s (t ∷ slots) zero = record s { len = s.len + t.len } ∷ slots

@@ -26,12 +26,12 @@ abbrev pub is_commit : ℕ → List Delta → List ℕ → Bool
 is_commit tid before bytes =
     u64_at bytes 0 == tid && u32_at bytes 8 == length before && nat_lt (length (drop 16 bytes)) payload_size && are_zeros (drop 16 bytes)
 
--- a delta of this kind may stand at the front of the bytes, behind these deltas
+-- a delta of this kind may stand at the front of the bytes, after these deltas
 abbrev pub is_delta : Geometry → DeltaKind → List Delta → List ℕ → Bool
 is_delta g kind before bytes =
     may_be_logged g kind (u64_at bytes 0) (u32_at bytes 8) && list_all (λ d. may_precede d kind (u64_at bytes 0)) before
 
--- what stands at the front of the bytes, behind these deltas of transaction tid
+-- what stands at the front of the bytes, after these deltas of transaction tid
 pub data Front : Type 0 where
   Logged : Delta → Front
   Commit : Front
@@ -53,20 +53,20 @@ front_of g tid before bytes =
     else (if u32_at bytes 12 == commit_type then (if is_commit tid before bytes then Commit else Wrong)
     else front_of_kind g before bytes (kind_of (u32_at bytes 12)))
 
--- the run whose next record is this; `more` is the run behind a delta
+-- the run whose next record is this; `more` is the run after a delta
 abbrev pub run_at : Front → List Delta → (Delta → Run) → Run
 run_at (Logged d) before more = more d
 run_at Commit before more = Whole before
 run_at Cut before more = Short
 run_at Wrong before more = Bad
 
--- The run behind these deltas. Each record takes bytes, so a run has no more records than bytes.
-unfoldable pub run_behind : Geometry → ℕ → ℕ → List Delta → List ℕ → Run
-run_behind g tid zero before bytes = Short
-run_behind g tid (suc records) before bytes =
+-- The run after these deltas. Each record takes bytes, so a run has no more records than bytes.
+unfoldable pub run_after : Geometry → ℕ → ℕ → List Delta → List ℕ → Run
+run_after g tid zero before bytes = Short
+run_after g tid (suc records) before bytes =
     run_at (front_of g tid before bytes) before
-    (λ d. run_behind g tid records (before ++ d ∷ []) (drop (16 + logged_len d.kind d.len) bytes))
+    (λ d. run_after g tid records (before ++ d ∷ []) (drop (16 + logged_len d.kind d.len) bytes))
 
 -- the run that a payload is
 abbrev pub run_of : Geometry → ℕ → List ℕ → Run
-run_of g tid payload = run_behind g tid (suc (length payload)) [] payload
+run_of g tid payload = run_after g tid (suc (length payload)) [] payload

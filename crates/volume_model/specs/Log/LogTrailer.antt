@@ -1,4 +1,4 @@
--- The trailer of a log sector: its last 8 bytes, behind 504 bytes of payload.
+-- The trailer of a log sector: its last 8 bytes, after 504 bytes of payload.
 use Rattle.std.specs.Prelude.{List, ℕ, ◌+◌, ◌++◌}
 use Rattle.lufs_base.specs.Fields.{u32_at, field_bytes}
 use Rattle.lufs_base.specs.Layout.{payload_size}

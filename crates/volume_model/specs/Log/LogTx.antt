@@ -27,7 +27,7 @@ record_head home len type = field_bytes 8 home ++ (field_bytes 4 len ++ field_by
 abbrev pub delta_record : Delta → List ℕ
 delta_record d = record_head d.home d.len (type_of d.kind) ++ d.bytes
 
--- the commit record behind so many deltas
+-- the commit record after so many deltas
 abbrev pub commit_record : (tid count : ℕ) → List ℕ
 commit_record tid count = record_head tid count commit_type
 

@@ -7,7 +7,7 @@ use Rattle.volume_model.specs.declared.log.Tx.{Tx}
 use Rattle.volume_model.specs.Format.{Image}
 use Rattle.volume_model.specs.Log.LogRecord.{is_zero_block, is_cancel}
 use Rattle.lufs_base.specs.Kinds.{has_bytes}
-use Rattle.volume_model.specs.Log.Ring.{Log, NoHeader, Behind, Listed, BadRun, log_of}
+use Rattle.volume_model.specs.Log.Ring.{Log, NoHeader, WithHeader, Listed, BadRun, log_of}
 
 -- the transaction cancels this block
 abbrev pub cancels : ℕ → Tx → Bool
@@ -18,7 +18,7 @@ abbrev pub live_deltas : List Tx → List Delta
 live_deltas [] = []
 live_deltas (tx ∷ later) = filter (λ d. not (list_any (cancels (d.home / 4096)) later)) tx.deltas ++ live_deltas later
 
--- the byte that a delta has i bytes behind its home: zeros are laid by a zero block, nothing by a cancel
+-- the byte that a delta has i bytes after its home: zeros are laid by a zero block, nothing by a cancel
 abbrev pub byte_of : Delta → ℕ → Option ℕ
 byte_of d i = if has_bytes d.kind then Some (slice_index d.bytes i) else (if is_zero_block d.kind then Some 0 else None)
 
@@ -36,8 +36,8 @@ replayed image txs = map (recovered_byte image (live_deltas txs)) (range_with_le
 
 abbrev pub recovered_by : Image → Log → Option Image
 recovered_by image NoHeader = None
-recovered_by image (Behind h (Listed txs)) = Some (replayed image txs)
-recovered_by image (Behind h (BadRun tid place)) = None
+recovered_by image (WithHeader h (Listed txs)) = Some (replayed image txs)
+recovered_by image (WithHeader h (BadRun tid place)) = None
 
 -- the recovered content of a volume, if its log is a list of transactions
 abbrev pub recovered : Geometry → Image → Option Image

@@ -64,7 +64,7 @@ block_numbered blocks number = if number == 0 then [] else blocks number
 abbrev pub pointers_at : Blocks → ℕ → List ℕ
 pointers_at blocks number = if number == 0 then replicate pointers_of_block 0 else pointers_of (blocks number)
 
--- the number of the block at each index: the direct ones, and behind them those of the pointer blocks
+-- the number of the block at each index: the direct ones, and after them those of the pointer blocks
 abbrev pub numbers_of : Blocks → Dinode → List ℕ
 numbers_of blocks d = d.direct ++ flat_map (λ p. pointers_at blocks p.block) (named_pointers d)
 

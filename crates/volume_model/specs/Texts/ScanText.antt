@@ -7,9 +7,9 @@ use Rattle.lufs_base.specs.declared.geometry.Geometry.{Geometry}
 use Rattle.volume_model.specs.declared.log.Header.{Header}
 use Rattle.volume_model.specs.declared.log.Tx.{Tx}
 use Rattle.volume_model.specs.Format.{Image, geometry_of}
-use Rattle.volume_model.specs.Log.{delta_bytes, Log, NoHeader, Behind, Listed, BadRun, log_of}
+use Rattle.volume_model.specs.Log.{delta_bytes, Log, NoHeader, WithHeader, Listed, BadRun, log_of}
 
--- a word and a number behind it
+-- a word and a number after it
 abbrev pub field : List ℕ → ℕ → List ℕ
 field word n = word ++ (32 ∷ decimal n)
 
@@ -31,8 +31,8 @@ scan_text g h txs = header_line g h ++ (flat_map tx_line txs ++ summary_line txs
 
 abbrev pub text_of_log : Geometry → Log → Option (List ℕ)
 text_of_log g NoHeader = None
-text_of_log g (Behind h (Listed txs)) = Some (scan_text g h txs)
-text_of_log g (Behind h (BadRun tid place)) = None
+text_of_log g (WithHeader h (Listed txs)) = Some (scan_text g h txs)
+text_of_log g (WithHeader h (BadRun tid place)) = None
 
 -- what `scan` prints of an image, if it is a volume with a log that is not bad
 unfoldable pub scan_text_of : Image → Option (List ℕ)

@@ -55,7 +55,7 @@ ring_with first place = if place == 0 then first else replicate 512 0
 abbrev pub log_of_sector : List ℕ → Log
 log_of_sector first = log_with smallest worked_header (ring_with first)
 
--- the ring whose places hold these sectors from place 0 on, and zeros behind them
+-- the ring whose places hold these sectors from place 0 on, and zeros after them
 abbrev pub ring_of_sectors : List (List ℕ) → ℕ → List ℕ
 ring_of_sectors sectors place = unwrap_or (slice_get sectors place) (replicate 512 0)
 

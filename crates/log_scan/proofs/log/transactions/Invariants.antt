@@ -5,7 +5,7 @@ use Rattle.volume_model.specs.Format.{sectors_in}
 use Rattle.log_scan.proofs.Listing.{with_front}
 use Rattle.log_scan.proofs.log.transactions.Given as goal
 
--- the transactions so far, and those behind them, are the log's
+-- the transactions so far, and those after them, are the log's
 abbrev pub invariant-loop-txs : goal.invariant-loop-txs
 invariant-loop-txs l = record {
   inside : l.at ≤ ring_of l.g;

@@ -37,9 +37,9 @@ pub returns-clause-no_bit_of_a_pointer_block : goal.returns-clause-no_bit_of_a_p
 unfolding number_in made_block clear_bits group_bytes group_of dinode_bytes dinode_of numbers_in slots_in reading_of claims_of finding_of verdict_of
 returns-clause-no_bit_of_a_pointer_block c = refl
 
-pub returns-clause-no_bit_behind_a_pointer_block : goal.returns-clause-no_bit_behind_a_pointer_block
+pub returns-clause-no_bit_after_a_pointer_block : goal.returns-clause-no_bit_after_a_pointer_block
 unfolding number_in made_block clear_bits group_bytes group_of dinode_bytes dinode_of numbers_in slots_in reading_of claims_of finding_of verdict_of
-returns-clause-no_bit_behind_a_pointer_block c = refl
+returns-clause-no_bit_after_a_pointer_block c = refl
 
 pub returns-clause-count_of_inodes : goal.returns-clause-count_of_inodes
 unfolding number_in made_block clear_bits group_bytes group_of dinode_bytes dinode_of numbers_in slots_in reading_of claims_of finding_of verdict_of

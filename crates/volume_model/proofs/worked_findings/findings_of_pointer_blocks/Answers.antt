@@ -29,9 +29,9 @@ pub returns-clause-directory_without_pointer_block : goal.returns-clause-directo
 unfolding number_in made_block clear_bits group_bytes group_of dinode_bytes dinode_of numbers_in slots_in reading_of claims_of finding_of verdict_of
 returns-clause-directory_without_pointer_block c = refl
 
-pub returns-clause-free_inode_named_behind_it : goal.returns-clause-free_inode_named_behind_it
+pub returns-clause-free_inode_named_after_it : goal.returns-clause-free_inode_named_after_it
 unfolding number_in made_block clear_bits group_bytes group_of dinode_bytes dinode_of numbers_in slots_in reading_of claims_of finding_of verdict_of
-returns-clause-free_inode_named_behind_it c = refl
+returns-clause-free_inode_named_after_it c = refl
 
 pub returns-clause-pointer_block_of_an_empty_file : goal.returns-clause-pointer_block_of_an_empty_file
 unfolding number_in made_block clear_bits group_bytes group_of dinode_bytes dinode_of numbers_in slots_in reading_of claims_of finding_of verdict_of
