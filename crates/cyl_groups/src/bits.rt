@@ -1,3 +1,4 @@
+//! Bits in a slice of bytes: tested, searched, set and cleared.
 ghost use Rattle.std.specs.Prelude.{◌≡◌, ◌<◌, ◌≤◌, ◌*◌, length, true, false};
 ghost use Rattle.volume_model.specs.Format.{bit_at, are_set};
 ghost use Rattle.cyl_groups.specs.Bits.{IsFirstClear, HasBitPut};

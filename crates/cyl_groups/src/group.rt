@@ -1,3 +1,4 @@
+//! A group in memory: what is free in it, and how bits and counts change together.
 ghost use Rattle.std.specs.Prelude.{◌≤◌};
 
 use crate::bits;

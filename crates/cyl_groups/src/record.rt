@@ -1,3 +1,4 @@
+//! Reads a group record from its bytes and writes it there.
 ghost use Rattle.std.specs.Prelude.{◌≡◌, length, option_map, IfOk};
 ghost use Rattle.std.specs.Result.{result_ok};
 ghost use Rattle.lufs_base.specs.Layout.{IsGeometry};

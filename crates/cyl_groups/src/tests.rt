@@ -1,3 +1,4 @@
+//! Group records that are read or refused, and what a group gives out and takes back.
 ghost use Rattle.std.specs.Prelude.{◌≡◌, ◌≤◌, true, false};
 ghost use Rattle.volume_model.specs.Format.{bit_at};
 ghost use Rattle.cyl_groups.specs.Group.{IsCounted};

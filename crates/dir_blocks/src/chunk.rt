@@ -1,3 +1,4 @@
+//! A directory chunk in memory: read, written, searched and changed, with the laws of reading back.
 ghost use Rattle.std.specs.Prelude.{◌≡◌, ◌≢◌, ℕ, List, ◌∷◌, [], length, Some, IsSome, IfSome, IfOk, OnOk, OnErr};
 ghost use Rattle.lufs_base.specs.Fields.{AreBytes};
 ghost use Rattle.lufs_base.specs.Name.{IsName};

@@ -1,3 +1,4 @@
+//! Changes of the slots of a chunk: a name is entered, given another inode, or removed.
 ghost use Rattle.std.specs.Prelude.{◌≡◌, ◌^◌, ◌<◌, ◌≤◌, sum_by, All, length, OnOk, OnErr};
 ghost use Rattle.volume_model.specs.Format.{kept_length, with_name_at, with_ino, without_slot};
 

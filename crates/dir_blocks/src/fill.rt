@@ -1,3 +1,4 @@
+//! Puts bytes or zeros into a slice from a place on.
 ghost use Rattle.std.specs.Prelude.{◌≡◌, ◌+◌, ◌≤◌, length, replicate};
 ghost use Rattle.lufs_base.specs.Fields.{put_at};
 

@@ -1,3 +1,4 @@
+//! One slot of a chunk: its length, its name, and how it is read and written.
 ghost use Rattle.std.specs.Prelude.{◌≡◌, ◌+◌, ◌-◌, ◌^◌, ◌<◌, ◌≤◌, ◌==◌, nat_le, not, ◌&&◌, bytes_eq, true, length, IfOk};
 ghost use Rattle.lufs_base.specs.Fields.{u16_at, put_at};
 ghost use Rattle.volume_model.specs.Format.{least_length, kept_length, is_slot, is_named, slot_at, slot_bytes, found_at, IsSlot};

@@ -1,3 +1,4 @@
+//! Chunks that are read or refused, what each change makes of a chunk, and the bytes that are written.
 ghost use Rattle.std.specs.Prelude.{◌≡◌, length};
 
 use crate::{Chunk, ChunkError, read_chunk, write_chunk};

@@ -1,4 +1,4 @@
-// The laws of histories: what more entries change of them, and moments one after the other.
+//! The laws of histories: what more entries change of them, and moments one after the other.
 ghost use Rattle.std.specs.Prelude.{◌≡◌, ◌≤◌, ◌↔◌, ℕ, ◌+◌, ◌∷◌, ◌++◌, [], List, length, false, IfSome};
 ghost use Rattle.std.specs.List.{AllByRecursion};
 ghost use Rattle.lufs_base.specs.declared.geometry.Geometry.{Geometry};

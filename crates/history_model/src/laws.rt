@@ -1,4 +1,4 @@
-// The laws of calls on trees.
+//! The laws of calls on trees.
 ghost use Rattle.std.specs.Prelude.{◌≡◌, ◌≢◌, ◌<◌, ◌==◌, ◌↔◌, ℕ, ◌+◌, Some, List, Bool, true, false, if◌then◌else◌, is_some, Result, Ok};
 ghost use Rattle.lufs_base.specs.declared.geometry.Geometry.{Geometry};
 ghost use Rattle.tree_types.specs.declared.credentials.Cred.{Cred};

@@ -1,4 +1,4 @@
-// The bytes of files computed: holes, sizes that grow and shrink, and which blocks a file has.
+//! The bytes of files computed: holes, sizes that grow and shrink, and which blocks a file has.
 ghost use Rattle.std.specs.Prelude.{◌≡◌, ◌∷◌, ◌++◌, [], codes, replicate};
 ghost use Rattle.tree_types.specs.declared.call.Call.TheVariants as call;
 ghost use Rattle.tree_types.specs.declared.reply.Reply.TheVariants as reply;

@@ -1,4 +1,4 @@
-// Calls computed on small trees: what each does and why it is refused, with the text of each reply.
+//! Calls computed on small trees: what each does and why it is refused, with the text of each reply.
 ghost use Rattle.std.specs.Prelude.{◌≡◌, ◌∷◌, ◌++◌, [], codes};
 ghost use Rattle.history_model.specs.WorkedTrees.{answers_to, answers_on, later_answers_on, tree_with, first_chunk, slot, empty_file};
 

@@ -1,4 +1,4 @@
-// Crash safety, computed on a small volume and a small session.
+//! Crash safety, computed on a small volume and a small session.
 ghost use Rattle.std.specs.Prelude.{[]};
 ghost use Rattle.volume_model.specs.Sound.{MountsAs, shape_of};
 ghost use Rattle.volume_model.specs.Worked.{smallest};

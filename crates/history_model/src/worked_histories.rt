@@ -1,4 +1,4 @@
-// Histories computed: their texts, the trees that they lead to, what an entry touches, and the room that a line reserves.
+//! Histories computed: their texts, their trees, what an entry touches, and the room that a line reserves.
 ghost use Rattle.std.specs.Prelude.{◌≡◌, ◌≤◌, ◌∷◌, ◌++◌, [], codes, map, replicate, Some, None, true, false};
 ghost use Rattle.lufs_base.specs.Layout.{ring_of};
 ghost use Rattle.tree_types.specs.declared.call.Call.TheVariants as call;

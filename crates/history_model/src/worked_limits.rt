@@ -1,4 +1,4 @@
-// Limits computed: names, links, chunks, inodes and blocks; and which of two refusals comes first, on trees made for it.
+//! Limits computed: names, links, chunks, inodes and blocks; and which of two refusals comes first.
 ghost use Rattle.std.specs.Prelude.{◌≡◌, ◌+◌, ◌∷◌, ◌++◌, [], codes, replicate, map, true, false};
 ghost use Rattle.std.specs.List.{range_with_len};
 ghost use Rattle.tree_types.specs.declared.call.Call.TheVariants as call;

@@ -1,4 +1,4 @@
-// The lines of scripts and the texts of replies, computed.
+//! The lines of scripts and the texts of replies, computed.
 ghost use Rattle.std.specs.Prelude.{◌≡◌, ◌∷◌, ◌++◌, [], codes, replicate, map, Some, None, true, false};
 ghost use Rattle.tree_types.specs.declared.call.Call.TheVariants as call;
 ghost use Rattle.tree_types.specs.declared.reply.Reply.TheVariants as reply;

@@ -1,4 +1,4 @@
-// Renames computed on small trees: each case in its order, and what a rename leaves.
+//! Renames computed on small trees: each case in its order, and what a rename leaves.
 ghost use Rattle.std.specs.Prelude.{◌≡◌, ◌∷◌, ◌++◌, [], codes};
 ghost use Rattle.history_model.specs.WorkedTrees.{answers_to};
 

@@ -1,4 +1,4 @@
-// Trees that are right and some that aren't, computed.
+//! Trees that are right and some that aren't, computed.
 ghost use Rattle.volume_model.specs.Worked.{smallest};
 ghost use Rattle.history_model.specs.Right.{IsRightWithin};
 ghost use Rattle.history_model.specs.Ranges.{HasLinksInRange, HasSizesInRange};

@@ -1,4 +1,4 @@
-// Walks computed on small trees: parts, rights, links, and which refusal comes first.
+//! Walks computed on small trees: parts, rights, links, and which refusal comes first.
 ghost use Rattle.std.specs.Prelude.{◌≡◌, ◌∷◌, ◌++◌, [], codes, replicate};
 ghost use Rattle.history_model.specs.WorkedTrees.{answers_to, longest};
 

@@ -1,3 +1,4 @@
+//! The trait of a host, which lends disks and sinks by name, and the values that record what it was asked.
 ghost use Rattle.std.specs.Prelude.{◌≡◌, ◌≢◌, Some, None, Err, IfSome, IfOk, IsSome};
 ghost use Rattle.std.specs.Option.{ForSome};
 ghost use Rattle.host_io.specs.Outside.{Outside, disk_of, answer_of, after_ask, with_disk, with_sink, IsLentDisk, IsLentSink, StartsAs, empty_sink};

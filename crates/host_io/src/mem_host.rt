@@ -1,3 +1,4 @@
+//! A host in memory for tests and examples, whose calls fail where a test names them.
 ghost use Rattle.std.specs.Prelude.{◌≡◌, ◌≢◌, ◌<◌, ◌∷◌, ◌++◌, [], OnOk, OnErr, Contains, IfOk, Some, None, Err, IsSome, vec_len, vec_capacity, is_ok, if◌then◌else◌};
 ghost use Rattle.std.specs.Option.{option_copied, option_map, ForSome};
 ghost use Rattle.lufs_base.specs.Causes.{counted};

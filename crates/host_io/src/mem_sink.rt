@@ -1,3 +1,4 @@
+//! A sink in memory, whose puts fail where a test names them.
 ghost use Rattle.std.specs.Prelude.{◌≡◌, ◌≤◌, ◌⊎◌, ◌+◌, [], ◌++◌, Some, IsErr, OnOk, OnErr, Contains, IsTrue, ◌↔◌};
 ghost use Rattle.lufs_base.specs.Causes.{counted};
 ghost use Rattle.host_io.specs.Outside.{Puts};

@@ -1,3 +1,4 @@
+//! Things by name in a list: looked up, lent, and put back.
 ghost use Rattle.std.specs.Prelude.{◌≡◌, ◌<◌, length, IfSome, MatchOption, OnOk, OnErr, IfOk, IfErr, IfNone, OnSome};
 ghost use Rattle.std.specs.Option.{option_copied};
 ghost use Rattle.host_io.specs.Places.{here, lent, nothing, here_of, with_place};

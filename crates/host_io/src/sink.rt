@@ -1,3 +1,4 @@
+//! The trait of a sink, which takes the bytes that a command prints.
 ghost use Rattle.std.specs.Prelude.{◌≡◌};
 ghost use Rattle.host_io.specs.Outside.{SinkTold, Puts};
 

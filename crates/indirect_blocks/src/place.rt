@@ -1,3 +1,4 @@
+//! Where the number of a file's block stands: in the inode, or in which entry of which pointer block.
 ghost use Rattle.std.specs.Prelude.{◌≡◌};
 ghost use Rattle.indirect_blocks.specs.FileIndex.{place_of, IsPlace};
 

@@ -1,3 +1,4 @@
+//! The numbers of a pointer block, read, written and changed, with the laws of reading back.
 ghost use Rattle.std.specs.Prelude.{◌≡◌, ℕ, List, ◌<◌, ◌^◌, length, All, IfOk, slice_index, slice_set};
 ghost use Rattle.lufs_base.specs.Fields.{AreBytes};
 ghost use Rattle.volume_model.specs.Format.{pointers_of, pointer_bytes};

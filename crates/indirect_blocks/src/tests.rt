@@ -1,3 +1,4 @@
+//! Places at the edges of their ranges, and a pointer block with one number changed.
 use crate::{Place, place_of, read_pointers, write_pointers};
 use std::test::Fail;
 

@@ -1,3 +1,4 @@
+//! Rows of block numbers of four bytes each, read and written.
 ghost use Rattle.std.specs.Prelude.{◌≡◌, ℕ, ◌<◌, ◌^◌, slice_index, ◌+◌, ◌*◌, ◌≤◌, length, drop};
 ghost use Rattle.lufs_base.specs.Fields.{put_at};
 ghost use Rattle.volume_model.specs.Format.{numbers_in, numbers_bytes};

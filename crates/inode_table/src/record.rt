@@ -1,3 +1,4 @@
+//! Reads an inode record from its 128 bytes and writes it there.
 ghost use Rattle.std.specs.Prelude.{◌≡◌, Some, length, option_map, IfOk, IfSome};
 ghost use Rattle.std.specs.Result.{result_ok};
 ghost use Rattle.volume_model.specs.Format.{is_mode, has_indirect, is_dinode, dinode_of, dinode_bytes, IsDinode};

@@ -1,3 +1,4 @@
+//! Inode records that are read or refused, and records that are written and read back.
 ghost use Rattle.std.specs.Prelude.{◌≤◌};
 
 use crate::{BadInode, Dinode, read_dinode, write_dinode};

@@ -1,3 +1,4 @@
+//! The program over any host: its arguments, and the command that they are.
 ghost use Rattle.std.specs.Prelude.{◌≡◌, [], drop, IfOk, IfErr, OnErr};
 ghost use Rattle.std.specs.Vec.Iter.{into_iter_items};
 ghost use Rattle.std.specs.Process.{exit_status};

@@ -1,3 +1,4 @@
+//! Bytes on the heap, which contracts see as a list.
 ghost use Rattle.std.specs.Prelude.{◌≡◌, ◌↔◌, ℕ, List, [], IfOk, IsTrue, length};
 
 use crate::Mem;

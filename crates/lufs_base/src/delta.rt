@@ -1,3 +1,4 @@
+//! One logged change of metadata, and lists of them.
 ghost use Rattle.std.specs.Prelude.{◌≡◌, ◌∷◌, ◌++◌, [], length, OnOk, OnErr};
 ghost use Rattle.lufs_base.specs.Kinds.{has_bytes};
 

@@ -1,3 +1,4 @@
+//! The two errors that every crate shares: out of memory, and a failed call of a disk.
 ghost use Rattle.std.specs.Prelude.{Some, codes};
 
 use std::alloc::{AllocError, AllocFailed};

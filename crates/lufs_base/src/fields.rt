@@ -1,3 +1,4 @@
+//! Big-endian numbers in bytes, read and written, with the laws that the two agree.
 ghost use Rattle.std.specs.Prelude.{◌≡◌, ℕ, List, ◌+◌, ◌^◌, ◌≤◌, ◌<◌, ◌++◌, length, take, drop, replicate};
 ghost use Rattle.lufs_base.specs.Fields.{u16_at, u32_at, u64_at, number_in, AreBytes, field_bytes, put_at, are_zeros};
 

@@ -1,3 +1,4 @@
+//! The numbers that a volume is laid out by, and where each of its parts lies.
 ghost use Rattle.std.specs.Prelude.{◌≡◌, ℕ, ◌<◌, ◌*◌};
 ghost use Rattle.lufs_base.specs.declared.geometry.Geometry.{Geometry};
 ghost use Rattle.lufs_base.specs.declared.geometry.Region.{Region};

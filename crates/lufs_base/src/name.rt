@@ -1,3 +1,4 @@
+//! The name of a directory entry, and which names are allowed.
 ghost use Rattle.std.specs.Prelude.{◌≡◌, List, [], ℕ, IfOk};
 ghost use Rattle.std.specs.List.{list_all};
 ghost use Rattle.lufs_base.specs.Name.{is_name, is_name_byte};

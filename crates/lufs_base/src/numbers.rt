@@ -1,3 +1,5 @@
+//! Numbers of blocks, inodes, transactions and epochs, each in a type of its own.
+
 /// The number of a block of 4,096 bytes, from 0 at the front of the volume.
 #[derive(Clone, Copy, Debug, PartialEq, Eq, PartialOrd, Ord, Hash)]
 pub struct BlockNo(pub u32);

@@ -1,3 +1,4 @@
+//! Numbers in bytes, ranges, the layout of the smallest volume, lists and names.
 ghost use Rattle.std.specs.Prelude.{◌≤◌};
 ghost use Rattle.lufs_base.specs.Layout.{IsGeometry};
 

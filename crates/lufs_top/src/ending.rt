@@ -1,3 +1,4 @@
+//! How a command can end, and the exit status of each ending.
 ghost use Rattle.std.specs.Prelude.{◌≡◌};
 ghost use Rattle.lufs_top.specs.Ending.{status_of, IsRefusal};
 

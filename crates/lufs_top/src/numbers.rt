@@ -1,3 +1,4 @@
+//! The numbers in the words of `mkfs`: read from digits, and tested against their ranges.
 ghost use Rattle.std.specs.Prelude.{◌≡◌, Some, None, IfOk, IfErr};
 ghost use Rattle.lufs_base.specs.Layout.{IsGeometry};
 ghost use Rattle.lufs_top.specs.Numbers.{first_out_of_range, geometry_from, has_leading_zero, name_of_number, number_of};

@@ -1,3 +1,4 @@
+//! Prints how a command ended, and answers the exit status.
 ghost use Rattle.std.specs.Prelude.{◌≡◌, ◌∷◌, ◌++◌};
 ghost use Rattle.std.specs.Fmt.{decimal};
 ghost use Rattle.host_io.specs.Outside.{Puts};

@@ -1,3 +1,4 @@
+//! Commands run over a host in memory: each status, each text, and each call that fails.
 ghost use Rattle.std.specs.Prelude.{◌≡◌, ◌%◌, IfOk, length};
 ghost use Rattle.lufs_base.specs.Layout.{IsGeometry};
 

@@ -1,3 +1,4 @@
+//! The top call: takes standard output, runs the command of the words, and says how it ended.
 ghost use Rattle.std.specs.Prelude.{◌≡◌, ◌∷◌, [], Some, None, Contains};
 ghost use Rattle.host_io.specs.declared.host.AskKind.TheVariants.{TakeSink};
 ghost use Rattle.lufs_top.specs.Run.{Ran, Runs, AsksInOrder, HasCauses, KeepsOthers, IsBack, TellsVerdict, asked_by, volume_of, status_without_output};

@@ -1,3 +1,4 @@
+//! Which command the words of a run are.
 ghost use Rattle.std.specs.Prelude.{◌≡◌, option_map};
 ghost use Rattle.lufs_top.specs.Words.{command_meant, command_of, numbers_of};
 

@@ -1,3 +1,4 @@
+//! The blocks of an empty volume: its log, its group records, its inodes and its root directory.
 ghost use Rattle.std.specs.Prelude.{OnOk, ◌++◌, vec_len, ◌≤◌, length, ◌≡◌, ◌<◌, ◌+◌, ◌*◌, ◌^◌, ◌-◌, min, Some, IfOk, replicate, ◌/◌};
 ghost use Rattle.lufs_base.specs.Layout.{IsGeometry};
 ghost use Rattle.volume_model.specs.Format.{dinode_bytes, chunk_bytes};

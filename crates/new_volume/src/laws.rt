@@ -1,4 +1,4 @@
-// What a crash may leave of a volume's making, and what a new volume stands for.
+//! What a crash may leave of a volume's making, and what a new volume stands for.
 ghost use Rattle.std.specs.Prelude.{◌≡◌, ◌≤◌, ◌<◌, ◌*◌, ◌%◌, ◌^◌, ℕ, length, take, [], Some};
 ghost use Rattle.lufs_base.specs.Layout.{IsGeometry, blocks_of};
 ghost use Rattle.lufs_base.specs.declared.geometry.Geometry.{Geometry};

@@ -1,4 +1,4 @@
-// Makes an empty volume on a disk (`docs/FORMAT.md`, "A new volume").
+//! Makes an empty volume on a disk (`docs/FORMAT.md`, "A new volume").
 ghost use Rattle.std.specs.Prelude.{◌≡◌, ◌≤◌, ◌<◌, ◌*◌, ◌^◌, ℕ, length, ◌⊎◌, Err, IfErr, IsErrOf, OnOk};
 ghost use Rattle.lufs_base.specs.Layout.{IsGeometry, blocks_of, superblock_sector};
 ghost use Rattle.volume_model.specs.MkfsImage.{used_blocks};

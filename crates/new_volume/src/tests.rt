@@ -1,3 +1,4 @@
+//! New volumes as bytes, disks that are too small or fail, and crashes over an older volume.
 ghost use Rattle.lufs_base.specs.Layout.{IsGeometry};
 
 use crate::{MkfsError, mkfs};

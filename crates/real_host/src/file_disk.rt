@@ -1,3 +1,4 @@
+//! A disk over an open file or block device.
 ghost use Rattle.std.specs.Prelude.{◌≡◌, ◌*◌, ◌<◌, ◌^◌, None};
 ghost use Rattle.lufs_base.specs.Causes.{counted};
 ghost use Rattle.sector_disk.specs.Disk.{failed_again};

@@ -1,3 +1,4 @@
+//! The host of the program: files by their paths, standard output, and the clock.
 ghost use Rattle.std.specs.Prelude.{None};
 
 use crate::file_disk::FileDisk;

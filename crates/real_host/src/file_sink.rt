@@ -1,3 +1,4 @@
+//! A sink over standard output or a file.
 ghost use Rattle.std.specs.Prelude.{None};
 
 use host_io::{Sink, SinkFault};

@@ -1,3 +1,4 @@
+//! What the program asks of the system, over real files and over a system that cuts calls short or fails them.
 mod fake;
 
 use crate::{FileDisk, FileHost};

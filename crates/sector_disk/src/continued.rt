@@ -1,4 +1,4 @@
-// What a crash may leave of a disk whose calls went on.
+//! What a crash may leave of a disk whose calls went on.
 ghost use Rattle.std.specs.Prelude.{◌≡◌, ◌↔◌, ℕ, ◌+◌, List, Some, IfSome};
 ghost use Rattle.volume_model.specs.Format.{Image};
 ghost use Rattle.volume_model.specs.Crash.{Outcome};

@@ -1,3 +1,4 @@
+//! Computes what a crash leaves, where the value of each sector is chosen.
 ghost use Rattle.std.specs.Prelude.{◌≡◌, ◌≤◌, ◌⊎◌, ℕ, ◌+◌, ◌*◌, length, take, drop, IfOk, IfErr, Ok, Err, Option, Some, List, ◌∷◌, ◌++◌};
 ghost use Rattle.std.specs.Option.{option_copied};
 ghost use Rattle.std.specs.List.{AllByRecursion};

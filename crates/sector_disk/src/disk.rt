@@ -1,3 +1,4 @@
+//! The trait of a disk: what each of its calls may do.
 ghost use Rattle.std.specs.Prelude.{◌≡◌, ◌≤◌, ◌+◌, ◌*◌, ◌∷◌, [], length, IfSome, IsSome, OnOk, OnErr, ◌⊎◌};
 ghost use Rattle.volume_model.specs.Format.{sectors_of};
 ghost use Rattle.volume_model.specs.declared.device_call.DeviceCall.TheVariants.{Write, Flush};

@@ -1,3 +1,4 @@
+//! Sectors laid over those of an image.
 ghost use Rattle.std.specs.Prelude.{◌≡◌, ◌≤◌, ◌+◌, ◌*◌, length};
 ghost use Rattle.std.specs.List.{AllByRecursion};
 ghost use Rattle.volume_model.specs.Format.{overwritten};

@@ -1,3 +1,4 @@
+//! A disk in memory that lists its calls, fails where a test names it, and tells what a crash leaves.
 ghost use Rattle.std.specs.Prelude.{◌≡◌, ◌≤◌, ◌<◌, ◌⊎◌, ◌↔◌, ℕ, ◌+◌, ◌*◌, ◌%◌, ◌/◌, [], ◌∷◌, ◌++◌, length, IfSome, IsSome, Some, IsErr, is_ok, is_err, if◌then◌else◌, OnOk, OnErr, List, Contains, IsTrue, IfOk, IfErr, Ok, Err};
 ghost use Rattle.volume_model.specs.Crash.{Outcome};
 ghost use Rattle.sector_disk.specs.Chosen.{crash_of};

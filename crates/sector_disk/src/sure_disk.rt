@@ -1,3 +1,4 @@
+//! A disk in memory that never fails.
 ghost use Rattle.std.specs.Prelude.{◌≡◌, ◌≤◌, ◌+◌, ◌*◌, ◌%◌, ◌∷◌, [], length, IsOk};
 ghost use Rattle.volume_model.specs.Format.{sectors_of};
 ghost use Rattle.volume_model.specs.declared.device_call.DeviceCall.TheVariants.{Write, Flush};

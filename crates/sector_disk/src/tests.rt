@@ -1,3 +1,4 @@
+//! Reads, failures and crashes of disks in memory.
 ghost use Rattle.std.specs.Prelude.{◌≡◌, ◌≤◌, IfOk, length};
 
 use crate::{CrashError, Disk, DiskFault, Fail, MemDisk, SureDisk};

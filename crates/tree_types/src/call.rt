@@ -1,3 +1,4 @@
+//! What a line of a script asks for.
 use crate::{Cred, PathText};
 use lufs_base::{Bytes, Name};
 

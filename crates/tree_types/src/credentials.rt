@@ -1,3 +1,4 @@
+//! Who makes a call, and what the rights of an inode permit.
 ghost use Rattle.std.specs.Prelude.{◌≡◌};
 ghost use Rattle.tree_types.specs.Permits.{rights_for, permits};
 

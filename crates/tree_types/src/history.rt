@@ -1,3 +1,4 @@
+//! What a session keeps of what it did: entries, commits and rolls.
 use crate::{Call, Cause, Cred, Reply};
 
 /// A line that was carried out or refused, in the order in which a session did so

@@ -1,3 +1,4 @@
+//! A list of names, as a reply gives it.
 ghost use Rattle.std.specs.Prelude.{◌≡◌, ◌∷◌, ◌++◌, [], length, OnOk, OnErr};
 
 use lufs_base::{Mem, Name};

@@ -1,3 +1,4 @@
+//! The bytes of a path, as a line has them.
 ghost use Rattle.std.specs.Prelude.{◌≡◌, List, ℕ, IfOk, length};
 
 use lufs_base::Mem;

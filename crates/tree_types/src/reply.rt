@@ -1,3 +1,4 @@
+//! What a line is answered, and why a call is refused.
 use crate::NameList;
 use lufs_base::Bytes;
 

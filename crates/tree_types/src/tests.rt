@@ -1,3 +1,4 @@
+//! The rights of each class of callers, and paths and names as lists.
 use crate::{Attr, Cred, NameList, PathText, permits};
 use lufs_base::Name;
 use std::test::Fail;

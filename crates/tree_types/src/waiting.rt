@@ -1,3 +1,5 @@
+//! What a line or a commit waits for, and why a commit or a roll was begun.
+
 /// What a line or a commit waits for, with the numbers that show it (`docs/SCRIPTS.md`, "Causes").
 #[derive(Clone, Copy, Debug, PartialEq, Eq)]
 pub enum Wait {

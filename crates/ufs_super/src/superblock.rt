@@ -1,3 +1,4 @@
+//! Reads a superblock from its sector and writes it there, with the laws that the two agree.
 ghost use Rattle.std.specs.Prelude.{◌≡◌, ◌<◌, ◌≤◌, ◌*◌, ℕ, List, Some, length, IfOk, IsTrue};
 ghost use Rattle.std.specs.Result.{result_ok};
 ghost use Rattle.lufs_base.specs.Fields.{AreBytes};

@@ -1,3 +1,4 @@
+//! Superblocks at the edges of the ranges, and their bytes as the format gives them.
 use crate::{read_super, write_super};
 use lufs_base::{Geometry, put_u32};
 

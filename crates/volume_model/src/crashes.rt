@@ -1,4 +1,4 @@
-// The laws of what a crash may leave, and of what a replay gives.
+//! The laws of what a crash may leave, and of what a replay gives.
 ghost use Rattle.std.specs.Prelude.{◌≡◌, ◌≤◌, ◌<◌, ◌↔◌, ℕ, ◌+◌, ◌*◌, [], List, length, take, slice_index, Some, false};
 ghost use Rattle.std.specs.List.{list_any};
 ghost use Rattle.lufs_base.specs.declared.geometry.Geometry.{Geometry};

@@ -1,3 +1,4 @@
+//! The calls of a disk that change what a crash may leave.
 use lufs_base::Bytes;
 
 /// A call of a disk that changes what a crash may leave.

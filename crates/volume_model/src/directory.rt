@@ -1,3 +1,4 @@
+//! A slot of a directory chunk as a value.
 use lufs_base::Name;
 
 /// A slot of a directory chunk (`docs/FORMAT.md`, "Directory chunks").

@@ -1,3 +1,5 @@
+//! What a check of a volume answers: the counts of a sound volume, or the first rule that is broken.
+
 /// A rule of a sound volume that is broken (`docs/FORMAT.md`, "What sound means"), in the order in which a check
 /// looks for them. Each comes with the number of a group, an inode or a block.
 #[derive(Clone, Copy, Debug, PartialEq, Eq)]

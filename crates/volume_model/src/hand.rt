@@ -1,3 +1,4 @@
+//! What a call that is under way holds of a volume, and lists of blocks.
 ghost use Rattle.std.specs.Prelude.{◌≡◌, ◌∷◌, ◌++◌, [], length, OnOk, OnErr};
 
 use lufs_base::{BlockNo, Mem};

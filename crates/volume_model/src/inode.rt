@@ -1,3 +1,5 @@
+//! An inode in use as a value.
+
 /// An inode in use (`docs/FORMAT.md`, "Inode record"). Block numbers are those of the volume, and 0
 /// stands for none.
 #[derive(Clone, Copy, Debug, PartialEq, Eq)]

@@ -1,3 +1,4 @@
+//! The header, the trailers and the transactions of a log as values.
 ghost use Rattle.std.specs.Prelude.{◌≡◌, ◌∷◌, ◌++◌, [], length, OnOk, OnErr};
 
 use lufs_base::{DeltaList, Mem};

@@ -1,3 +1,4 @@
+//! Lists of transactions, of blocks, and what a hand holds.
 use crate::{BlockList, Hand, Tx, TxList};
 use lufs_base::{BlockNo, DeltaList};
 use std::test::Fail;

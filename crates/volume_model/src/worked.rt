@@ -1,4 +1,4 @@
-// The definitions computed on small logs, records and images, so that a reader sees what they say.
+//! The definitions computed on small logs, records and images, so that a reader sees what they say.
 ghost use Rattle.std.specs.Prelude.{◌≡◌, ◌+◌, ◌∷◌, ◌++◌, [], codes, map, replicate, Some, None};
 ghost use Rattle.std.specs.List.{range_with_len};
 ghost use Rattle.lufs_base.specs.declared.delta.DeltaKind.TheVariants.{Chunk};

@@ -1,4 +1,4 @@
-// The definitions of directory chunks and pointer blocks computed on small examples.
+//! The definitions of directory chunks and pointer blocks computed on small examples.
 ghost use Rattle.std.specs.Prelude.{◌≡◌, ◌∷◌, ◌++◌, [], replicate, length, Some, None};
 ghost use Rattle.volume_model.specs.Format.{chunk_of, chunk_bytes, room_in, with_name, without_slot, found_at, new_directory, pointers_of, pointer_bytes};
 ghost use Rattle.volume_model.specs.Worked.{root_chunk, odd_chunk, root_with_one, root_after_one, one, pointer_block, pointers};

@@ -1,4 +1,4 @@
-// What sound means, computed on small volumes. Each clause has a volume and what is found in it.
+//! What sound means, computed on small volumes. Each clause has a volume and what is found in it.
 ghost use Rattle.std.specs.Prelude.{◌≡◌, ◌∷◌, [], replicate, codes, Some, None, true, false};
 ghost use Rattle.std.specs.List.{range_with_len};
 ghost use Rattle.lufs_base.specs.Fields.{field_bytes};

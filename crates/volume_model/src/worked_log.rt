@@ -1,4 +1,4 @@
-// What is written of the log, computed for small values, so that a reader sees what the definitions say.
+//! What is written of the log, computed for small values, so that a reader sees what the definitions say.
 ghost use Rattle.std.specs.Prelude.{◌≡◌, ◌∷◌, ◌++◌, [], replicate};
 ghost use Rattle.volume_model.specs.Format.{sectors_in};
 ghost use Rattle.volume_model.specs.Log.{tx_row, payload_of, header_bytes, tx_sectors, records_of, tx_bytes};

@@ -1,4 +1,4 @@
-// What mkfs makes of a disk, computed for the smallest volume.
+//! What mkfs makes of a disk, computed for the smallest volume.
 ghost use Rattle.std.specs.Prelude.{◌≡◌, ◌∷◌, ◌++◌, [], codes, take, drop, replicate, Some, None};
 ghost use Rattle.std.specs.Option.{option_map};
 ghost use Rattle.volume_model.specs.Format.{clear_bits};

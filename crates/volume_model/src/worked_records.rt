@@ -1,4 +1,4 @@
-// The definitions of records computed on those of the smallest volume.
+//! The definitions of records computed on those of the smallest volume.
 ghost use Rattle.std.specs.Prelude.{◌≡◌, ◌∷◌, ◌++◌, [], replicate, take, Some, None};
 ghost use Rattle.volume_model.specs.Format.{group_of, group_bytes, clear_bits, dinode_of, dinode_bytes};
 ghost use Rattle.volume_model.specs.Worked.{smallest, made_group, group_with, inode_bits, inode_bits_past, block_bits, block_bits_past, made_root, inode_with};

@@ -1,4 +1,4 @@
-// What a volume means, computed on small ones: what there is in it, its tree, and the line for what a check answers.
+//! What a volume means, computed on small ones: what there is in it, its tree, and the line for what a check answers.
 ghost use Rattle.std.specs.Prelude.{◌≡◌, ◌∷◌, ◌++◌, [], map, replicate, codes, Some, None};
 ghost use Rattle.volume_model.specs.declared.finding.Kind.TheVariants.{Group, Inode, Fields, Root, Twice, Chunk, Name, Parent, Links, InodeBit, BlockBit, Count};
 ghost use Rattle.volume_model.specs.declared.finding.Verdict.TheVariants.{Clean, Finding};

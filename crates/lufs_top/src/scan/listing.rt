@@ -1,3 +1,4 @@
+//! The text that `scan` prints of a log.
 ghost use Rattle.std.specs.Prelude.{◌≡◌, ◌≤◌, ◌*◌, ◌^◌, ◌<◌, length, string_bytes, sum_by, IfOk, OnOk, ◌++◌};
 ghost use Rattle.volume_model.specs.Texts.{scan_text, header_line, tx_line, summary_line};
 ghost use Rattle.volume_model.specs.Log.{logged_len, delta_bytes};
