@@ -12,7 +12,7 @@ use lufs_base::{Geometry, are_zeros, get_u32, put_u32};
 /// The first four bytes of a group record, as in UFS.
 const MAGIC: u32 = 0x0009_0255;
 
-/// The bytes are no record of the group.
+/// The bytes aren't a record of the group.
 #[derive(Clone, Copy, Debug, PartialEq, Eq)]
 pub struct BadGroup;
 
@@ -34,8 +34,8 @@ fn has_reserved(g: &Geometry, group: &Group) -> bool
         && (group.number != 0 || are_set(&group.inode_bits, 2))
 }
 
-/// The record of group `n` (`docs/FORMAT.md`, "Group record"). It is refused exactly where the format
-/// allows none. Its counts aren't compared with its bits.
+/// Reads the record of group `n` (`docs/FORMAT.md`, "Group record"). It answers an error exactly where the format
+/// allows no record. The record's counts aren't compared with its bits.
 pub fn read_group(g: &Geometry, n: u32, bytes: &[u8]) -> Result<Group, BadGroup>
     requires geometry { IsGeometry g.now }
     requires record { length bytes.now ≡ 416 }

@@ -35,7 +35,7 @@ impl Model for Chunk {
 /// Why there is no chunk.
 #[derive(Clone, Copy, Debug, PartialEq, Eq)]
 pub enum ChunkError {
-    /// The bytes are no chunk.
+    /// The bytes aren't a chunk.
     Bad,
     /// Out of memory.
     Mem,
@@ -145,8 +145,8 @@ impl Chunk {
         renumber_at(&mut self.slots, place, i.0);
     }
 
-    /// Removes the slot at this place. The first slot of a chunk becomes unused, and another one gives
-    /// its bytes to the slot before it.
+    /// Removes the slot at this place. The first slot of a chunk becomes unused; any other gives its bytes to the
+    /// slot before it.
     pub fn take_out(&mut self, place: usize)
         requires { IsUsed self.old place }
         ensures { self.new ≡ without_slot self.old place }
@@ -155,8 +155,8 @@ impl Chunk {
     }
 }
 
-/// The chunk that these 512 bytes are (`docs/FORMAT.md`, "Directory chunks"). It is `Bad` exactly where
-/// the format allows none.
+/// Reads a chunk from these 512 bytes (`docs/FORMAT.md`, "Directory chunks"). It answers `Bad` exactly where
+/// the format allows no chunk.
 pub fn read_chunk(alloc: Global, bytes: &[u8]) -> Result<Chunk, ChunkError>
     requires { length bytes.now ≡ 512 }
     ensures { IsRead (chunk_of bytes.now) result }
@@ -175,7 +175,7 @@ pub fn read_chunk(alloc: Global, bytes: &[u8]) -> Result<Chunk, ChunkError>
     Ok(Chunk { slots })
 }
 
-/// Writes the chunk to these 512 bytes, with zeros where a reader ignores what stands.
+/// Writes the chunk to these 512 bytes, with zeros in the bytes that a reader ignores.
 pub fn write_chunk(chunk: &Chunk, out: &mut [u8])
     requires { length out.old ≡ 512 }
     ensures { out.new ≡ chunk_bytes chunk.now }
@@ -192,7 +192,7 @@ pub fn chunk_read_back()
     ensures { (slots : List Slot) → IsChunk slots → chunk_of (chunk_bytes slots) ≡ Some slots }
 {}
 
-/// The slots that are read may be written.
+/// Slots that were read may be written.
 pub fn chunk_writable()
     ensures { (bytes : List ℕ) (slots : List Slot) → AreBytes bytes → chunk_of bytes ≡ Some slots → IsChunk slots }
 {}

@@ -12,8 +12,8 @@ ghost use Rattle.history_model.specs.Used.{HasRightFiles};
 ghost use Rattle.history_model.specs.Touched.{Settled};
 ghost use Rattle.history_model.specs.CrashSafety.{IsCrashSafeAt, CrashSafe};
 
-/// Entries that are added leave the tree after the first k entries, and go on from the tree after all of them. A history is
-/// legal with one more exactly where it is legal without it and that one is right after it.
+/// Entries that are added don't change the tree after the first k entries, and go on from the tree after all of them. A
+/// history with one more entry is legal exactly where it is legal without it and the entry is right after it.
 pub fn histories_grow()
     ensures replay { (g : Geometry) (moment : ℕ) (opening : Tree) (entries more : List Entry) (k : ℕ) → k ≤ length entries
         → replay_of g moment opening (entries ++ more) k ≡ replay_of g moment opening entries k }
@@ -25,7 +25,7 @@ pub fn histories_grow()
         → Legal g moment opening (entries ++ e ∷ []) ↔ (Legal g moment opening entries × IsRightAfter g moment opening entries e) }
 {}
 
-/// What is crash safe from one moment to another and on from the next one is so from the first to the last.
+/// What is crash safe over two stretches of moments that touch is crash safe over both together.
 pub fn moments_join()
     ensures one { (g : Geometry) (moment : ℕ) (opening : Tree) (h : History) (r : Record) (n : ℕ)
         → IsCrashSafeAt g moment opening h r n ↔ CrashSafe g moment opening h r n n }
@@ -33,13 +33,13 @@ pub fn moments_join()
         → CrashSafe g moment opening h r first middle → CrashSafe g moment opening h r next last → CrashSafe g moment opening h r first last }
 {}
 
-/// In a session that did nothing yet, each byte is settled by the opening.
+/// In a session that has done nothing yet, the opening settles each byte.
 pub fn opening_settles()
     ensures { (g : Geometry) (moment : ℕ) (opening : Tree) (n ino p : ℕ) → Settled g moment opening [] n ino p }
 {}
 
-/// Along a legal history trees stay right, their files too, and links in their range. Sizes do where each link that is made is
-/// given a text.
+/// Along a legal history trees and files stay right and links stay in their range. Sizes do too, if each new symbolic link
+/// has a text.
 pub fn histories_stay_right()
     ensures names { (g : Geometry) (moment : ℕ) (opening : Tree) (entries : List Entry) (k : ℕ) → Legal g moment opening entries
         → IsRightWithin g opening → IsRightWithin g (replay_of g moment opening entries k) }

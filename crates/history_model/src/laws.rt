@@ -30,7 +30,8 @@ pub fn refused_changes_nothing()
         → reply_of g tree cred call ≡ reply.Refused why → wanted_of g tree cred call ≡ nothing }
 {}
 
-/// The walk of a path is the one that the rules of `Walks` allow, and it ends in a directory, with what that names.
+/// The walk of a path is the only one that the rules of `Walks` allow. It ends in a directory, with what the last name
+/// stands for there.
 pub fn walks()
     ensures rules { (tree : Tree) (cred : Cred) (path : List ℕ) (follow : Bool) (end : Result WalkEnd Refusal)
         → (walk_of tree cred path follow ≡ end) ↔ Walks tree cred follow most_followed root (parts_of path) end }
@@ -38,7 +39,7 @@ pub fn walks()
         → walk_of tree cred path follow ≡ Ok p → (is_directory_in tree p.dir ≡ true) × (lookup tree p.dir p.name ≡ p.found) }
 {}
 
-/// The shape of a tree is enough to know whether a call is refused and why, what it claims, and its reply, unless that tells
+/// The shape of a tree decides whether a call is refused and why, what it claims, and its reply, unless the reply tells
 /// bytes of a file.
 pub fn shapes_are_enough()
     ensures refusals { (g : Geometry) (tree : Tree) (cred : Cred) (call : Call)
@@ -56,8 +57,8 @@ pub fn inodes_made()
         → (p : WalkEnd) × (ends_of tree cred call ≡ Ok (One p)) × HasMade tree (tree_after g tree cred ino moment call) p ino (made_node cred ino moment call p) }
 {}
 
-/// A call takes the inode that it wants and frees the one that goes with its last name. It claims the blocks that it wants,
-/// and frees those of that inode, or those that a file loses.
+/// After a call as many inodes are in use as before, with the one that it wants and without the one that it frees. As many
+/// blocks are claimed as before, with those that it wants and without those that it frees.
 pub fn inodes_and_blocks_counted()
     ensures inodes { (g : Geometry) (tree : Tree) (cred : Cred) (ino moment : ℕ) (call : Call)
         → IsOfUsed g tree → (makes_inode call ≡ true → IsUsable g tree ino)
@@ -76,7 +77,7 @@ pub fn links_entered()
         → links_in g (edited (Enter dir name i) tree) j ≡ links_in g tree j + (if i == j then 1 else 0) }
 {}
 
-/// The links of an inode are as many as a sound volume's record of it has: the slots in use that name it.
+/// An inode has as many links as there are slots in use that name it, which is the number in a sound volume's record of it.
 pub fn links_counted()
     ensures { (g : Geometry) (tree : Tree) (i : ℕ) → i ≢ 0 → links_in g tree i ≡ links_to (inodes_of g) (names_in_tree tree) i }
 {}
@@ -87,14 +88,14 @@ pub fn files_stay_right()
         → HasRightFiles tree → HasRightFiles (tree_after g tree cred ino moment call) }
 {}
 
-/// A right tree stays right under every call. An inode that the call makes was free.
+/// A right tree stays right under every call, if the number that the call gives to a new inode was free.
 pub fn trees_stay_right()
     ensures { (g : Geometry) (tree : Tree) (cred : Cred) (ino moment : ℕ) (call : Call)
         → (makes_inode call ≡ true → IsUsable g tree ino) → IsRightWithin g tree → IsRightWithin g (tree_after g tree cred ino moment call) }
 {}
 
-/// Links and sizes stay in their ranges under every call, where an inode that it makes was free and a link that it makes is
-/// given a text, as each call of a line is.
+/// Links and sizes stay in their ranges under every call, if the number that it gives to a new inode was free, and a new
+/// symbolic link has a text. A line always gives it one.
 pub fn numbers_stay_in_range()
     ensures links { (g : Geometry) (tree : Tree) (cred : Cred) (ino moment : ℕ) (call : Call)
         → (makes_inode call ≡ true → IsUsable g tree ino) → IsRightWithin g tree → HasLinksInRange g tree

@@ -1,5 +1,5 @@
-//! What calls and histories mean. The definitions stand in `specs/`, one file for each notion
-//! (`docs/CALLS.md`, `docs/SCRIPTS.md`); laws and computed examples are functions here.
+//! What calls and histories mean (`docs/CALLS.md`, `docs/SCRIPTS.md`). The definitions stand in `specs/`, one file for
+//! each notion. The laws about them, and examples that are computed, are functions here.
 #![tactic(auto)]
 
 mod histories;

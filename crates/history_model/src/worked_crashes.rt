@@ -5,7 +5,7 @@ ghost use Rattle.volume_model.specs.Worked.{smallest};
 ghost use Rattle.history_model.specs.CrashSafety.{IsCrashSafeAt, CrashSafe};
 ghost use Rattle.history_model.specs.WorkedImages.{file_image, tree_of_file, first_letters, other_letters, read_and_synced, one_commit, one_flush};
 
-/// A file is read and synced on a disk that lists one flush: what is left before it and after it recovers.
+/// A file is read and synced on a disk that lists one flush. What a crash leaves before that flush, or after it, recovers.
 pub fn crash_safe_session()
     ensures opening { MountsAs file_image (shape_of (tree_of_file first_letters)) }
     ensures safe { CrashSafe smallest 1000 (tree_of_file first_letters) (read_and_synced one_commit) one_flush 0 1 }

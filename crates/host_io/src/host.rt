@@ -38,7 +38,7 @@ pub enum AskKind {
     TakeSink,
 }
 
-/// What it answered. That memory ran out is no answer that is listed.
+/// What the host answered. An ask for which memory ran out isn't listed.
 #[derive(Clone, Copy, Debug, PartialEq, Eq)]
 pub enum AskAnswer {
     Given,
@@ -54,25 +54,25 @@ pub struct Ask {
     pub answer: AskAnswer,
 }
 
-/// Gives disks and sinks by name, and takes them back, and tells the moment. The name `-` is standard output
-/// (`docs/DEFINITIONS.md`, "What a host and a sink tell").
+/// The outside of a command. It lends disks and sinks by name, takes them back, and tells the time. The name `-` is
+/// standard output (`docs/DEFINITIONS.md`, "What a host and a sink tell").
 pub trait Host {
     type D: Disk;
 
     type K: Sink;
 
-    /// What it tells of the outside: its counts always, the rest as it likes.
+    /// What the host tells of the outside. It always tells its counts, and may leave out the rest.
     ghost outside: { Self → Outside };
 
     /// How many takes and makes failed.
     fn faults(&self) -> u64
         ensures { result ≡ (outside self.now).faults };
 
-    /// How many takes met no such name.
+    /// How many takes were of a disk that isn't there.
     fn absent(&self) -> u64
         ensures { result ≡ (outside self.now).absent };
 
-    /// The moment, in seconds since 1970.
+    /// The time, in seconds since 1970.
     fn moment(&mut self) -> u64
         ensures value { IfSome (outside self.old).moment (λ moment. result ≡ moment) }
         ensures after { outside self.new ≡ outside self.old };
@@ -83,8 +83,8 @@ pub trait Host {
         ensures missing { result ≡ Err Missing → disk_of (outside self.old) name.now ≡ None }
         ensures after { outside self.new ≡ after_ask TakeDisk name.now (answer_of result) (outside self.old) };
 
-    /// Lends the disk of that name as it is; where there is none, makes one of so many sectors of zeros
-    /// and lends it. It never answers `Missing`.
+    /// Lends the disk of that name as it is. Where there is none, it makes one of so many sectors of zeros and
+    /// lends that. It never answers `Missing`.
     fn make_disk(&mut self, name: &str, sectors: u64) -> Result<Self::D, HostError>
         ensures given { IfOk result (λ disk. IsSome (outside self.old).holds → StartsAs (disk_of (outside self.old) name.now) sectors (Self.D.told disk)) }
         ensures not_missing { result ≢ Err Missing }
@@ -95,8 +95,8 @@ pub trait Host {
         requires { ForSome (outside self.old).holds (IsLentDisk name.now) }
         ensures { outside self.new ≡ with_disk name.now (Self.D.told disk) (outside self.old) };
 
-    /// Makes an empty sink of that name, also in place of an older one, and lends it. It never
-    /// answers `Missing`.
+    /// Makes an empty sink of that name, which replaces an older one, and lends it. It never answers
+    /// `Missing`.
     fn take_sink(&mut self, name: &str) -> Result<Self::K, HostError>
         ensures given { IfOk result (λ sink. IsSome (outside self.old).holds → Self.K.told sink ≡ empty_sink) }
         ensures not_missing { result ≢ Err Missing }

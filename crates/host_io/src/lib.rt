@@ -1,5 +1,5 @@
-//! The outside of a command: disks and sinks by name, the moment, and a host of them in memory for
-//! tests.
+//! The outside of a command: a host lends it disks and sinks by name and tells the time. A host in memory is
+//! there for tests.
 #![tactic(auto)]
 
 mod host;

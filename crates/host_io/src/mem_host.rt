@@ -26,7 +26,7 @@ struct PutFail {
     k: u64,
 }
 
-/// A host in memory: a moment, disks and sinks by name, and the calls that are to fail. It tells
+/// A host in memory, with a time, disks and sinks by name, and the calls that are to fail. It tells
 /// everything.
 #[derive(Debug, Drop)]
 pub struct MemHost {
@@ -123,7 +123,7 @@ fn put_fails_of(alloc: Global, put_fails: &[PutFail], name: &str) -> Result<Vec<
 }
 
 impl MemHost {
-    /// A host that holds nothing, at this moment, in seconds since 1970.
+    /// A host that holds nothing, at this time in seconds since 1970.
     pub fn new(alloc: Global, moment: u64) -> Self
         ensures { result ≡ new_state moment }
     {
@@ -141,7 +141,7 @@ impl MemHost {
         }
     }
 
-    /// Holds the disk under the name, in place of an older one. An `Err` changes nothing.
+    /// Holds the disk under the name; an older one of that name is dropped. An `Err` changes nothing.
     pub fn add_disk(&mut self, name: &str, disk: MemDisk) -> Result<(), Mem>
         ensures ok { OnOk result (places_of self.new.disks ≡ with_place (places_of self.old.disks) name.now (here disk)) }
         ensures rest { self.new ≡ record self.old { disks = self.new.disks } }
@@ -152,7 +152,7 @@ impl MemHost {
         Ok(())
     }
 
-    /// The k-th call that takes or makes something, from 1, is to fail.
+    /// Lets the k-th call that takes or makes something fail, counted from 1.
     pub fn fail_host(&mut self, k: u64) -> Result<(), Mem>
         ensures { self.new ≡ (if is_ok result then record self.old { fails = self.old.fails ++ k ∷ [] } else self.old) }
     {
@@ -160,7 +160,7 @@ impl MemHost {
         Ok(())
     }
 
-    /// The k-th put, from 1, of the sink of that name is to fail, from its next take on.
+    /// Lets the k-th put of the sink of that name fail, counted from 1, once the sink is taken again.
     pub fn fail_put(&mut self, name: &str, k: u64) -> Result<(), Mem>
         ensures { self.new ≡ (if is_ok result then record self.old { put_fails = self.old.put_fails ++ record { sink = name.now; k = k } ∷ [] } else self.old) }
     {

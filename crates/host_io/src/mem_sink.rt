@@ -7,7 +7,7 @@ ghost use Rattle.host_io.specs.MemSink.{new_state, after_put, failed_put, starve
 use crate::{Sink, SinkFault};
 use std::marker::Model;
 
-/// A sink in memory, whose named puts fail, and those that find no memory.
+/// A sink in memory. A put fails where a test named it, or where memory runs out.
 #[derive(Debug, Drop)]
 pub struct MemSink {
     bytes: Vec<u8>,
@@ -46,7 +46,7 @@ impl MemSink {
         self.bytes.as_slice()
     }
 
-    /// How many puts failed since memory ran out.
+    /// How many puts failed because memory ran out.
     pub fn starved(&self) -> u64
         ensures { result ≡ self.now.starved }
     {
@@ -70,7 +70,7 @@ impl Sink for MemSink {
         self.faults
     }
 
-    /// Fails exactly where the call was named or memory ran out.
+    /// Fails exactly where the put was named or memory ran out.
     fn put(&mut self, bytes: &[u8]) -> Result<(), SinkFault>
         ensures named { Contains self.old.fails (counted self.old.puts) → IsErr result }
         ensures ok { OnOk result (self.new ≡ after_put bytes.now self.old) }

@@ -36,8 +36,8 @@ pub(crate) fn find<'a, T>(entries: &'a [Named<T>], name: &[u8]) -> Option<&'a T>
     entries[i].held.as_ref()
 }
 
-// Puts another thing in the place of what the name stands for, which it gives. Where no entry has
-// the name, it gives back what it was given.
+// Replaces what the name stands for, and answers what it stood for before. Where no entry has the name,
+// it answers what it was given.
 fn exchange<T>(
     entries: &mut Vec<Named<T>>,
     name: &[u8],

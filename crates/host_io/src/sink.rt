@@ -8,14 +8,14 @@ pub struct SinkFault;
 
 /// Takes bytes, one after the other (`docs/DEFINITIONS.md`, "What a host and a sink tell").
 pub trait Sink: Drop {
-    /// What it tells of itself: its count always, what it holds as it likes.
+    /// What the sink tells of itself. It always tells its count of faults, and may leave out what it holds.
     ghost told: { Self → SinkTold };
 
     /// How many puts failed.
     fn faults(&self) -> u64
         ensures { result ≡ (told self.now).faults };
 
-    /// Appends all bytes, or at `Err` the first of them, maybe none.
+    /// Appends the bytes. After an `Err` only the first of them were appended: maybe none, maybe all.
     fn put(&mut self, bytes: &[u8]) -> Result<(), SinkFault>
         ensures { Puts bytes.now result (told self.old) (told self.new) };
 }

@@ -15,10 +15,10 @@ pub enum Place {
     Direct(u32),
     /// In this entry of the inode's pointer block.
     Single(u32),
-    /// In the second entry, of the pointer block that the first entry of the inode's double pointer
-    /// block names.
+    /// In an entry of a pointer block that the inode's double pointer block names: first the entry there, and then
+    /// the one in the named block.
     Double(u32, u32),
-    /// Nowhere: the index is too great.
+    /// Nowhere, since the index is too great.
     Past,
 }
 

@@ -77,7 +77,7 @@ pub fn numbers_read_back()
     ensures { (numbers : List ℕ) → length numbers ≡ 1024 → All (λ n. n < 2 ^ 32) numbers → pointers_of (pointer_bytes numbers) ≡ numbers }
 {}
 
-/// A pointer block is the bytes of the numbers that it reads as.
+/// The numbers that a pointer block reads as are written as that same block.
 pub fn numbers_spelled_again()
     ensures { (bytes : List ℕ) → AreBytes bytes → length bytes ≡ 4096 → pointer_bytes (pointers_of bytes) ≡ bytes }
 {}

@@ -7,7 +7,7 @@ use crate::numbers::{get_numbers, put_numbers};
 use lufs_base::{are_zeros, get_u16, get_u32, get_u64, put_u16, put_u32, put_u64};
 use volume_model::Dinode;
 
-/// The bytes are no inode record.
+/// The bytes aren't an inode record.
 #[derive(Clone, Copy, Debug, PartialEq, Eq)]
 pub struct BadInode;
 
@@ -43,8 +43,8 @@ fn is_dinode(version: u32, bytes: &[u8]) -> bool
     has_indirect(version, get_u32(bytes, 84), get_u32(bytes, 88))
 }
 
-/// The inode in a record (`docs/FORMAT.md`, "Inode record"), or None where the record is free. It is
-/// refused exactly where the format allows none.
+/// Reads an inode from its record (`docs/FORMAT.md`, "Inode record"), or `None` where the record is free. It
+/// answers an error exactly where the format allows no such record.
 #[tactic(auto, unfolding(volume_model::specs::Format::InodeRecords::dinode_of))]
 pub fn read_dinode(version: u32, bytes: &[u8]) -> Result<Option<Dinode>, BadInode>
     requires { length bytes.now ≡ 128 }
@@ -87,7 +87,7 @@ fn put_dinode(d: &Dinode, out: &mut [u8])
     put_u32(out, 92, d.blocks);
 }
 
-/// Writes the record of this inode, or a free one (`docs/FORMAT.md`, "Inode record").
+/// Writes the record of this inode, or that of a free one (`docs/FORMAT.md`, "Inode record").
 #[tactic(auto, unfolding(volume_model::specs::Format::InodeRecords::dinode_bytes))]
 pub fn write_dinode(d: Option<&Dinode>, out: &mut [u8])
     requires { length out.old ≡ 128 }

@@ -1,4 +1,4 @@
-//! The program `lufs`: UFS metadata logging over a volume image.
+//! The program `lufs`: makes, checks and lists volumes with a log of their metadata.
 #![tactic(auto)]
 
 mod program;

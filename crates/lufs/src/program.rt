@@ -23,8 +23,8 @@ fn listed(alloc: Global, args: Args) -> Result<Vec<String>, AllocError>
     Ok(listed)
 }
 
-/// The program's arguments. Where they can't be read, as where one is no text, there are none, unless
-/// it is memory that ran out.
+/// The program's arguments. Where they can't be read, for example since one isn't UTF-8, the list is empty; where
+/// memory ran out, that is the error.
 pub fn arguments(alloc: Global, args: io::Result<Args>) -> Result<Vec<String>, AllocError>
     ensures read { IfOk args (λ args. IfOk result (λ listed. listed.items ≡ into_iter_items args)) }
     ensures unread { IfErr args (λ _. IfOk result (λ listed. listed.items ≡ [])) }
@@ -47,7 +47,7 @@ fn words(arguments: &[String]) -> &[String]
 }
 
 /// The program over a host: runs the command of its arguments, and answers the status to exit with
-/// (`README.md`, "Statuses"). Where there was no memory for the arguments, nothing is done.
+/// (`docs/FORMAT.md`, "Statuses"). Where there was no memory for the arguments, it does nothing.
 pub fn program<H: Host>(
     alloc: Global,
     host: &mut H,

@@ -31,7 +31,7 @@ impl<T: Drop> From<AllocFailed<T>> for Mem {
     }
 }
 
-/// A call of a disk failed. The disk's count of faults says that it did.
+/// A call of a disk failed. The disk counted it as a fault.
 #[derive(Clone, Copy, Debug, PartialEq, Eq)]
 pub struct DiskFault;
 

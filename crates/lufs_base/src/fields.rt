@@ -80,12 +80,12 @@ pub fn read_back()
     ensures { (n value : ℕ) (rest : List ℕ) → value < 256 ^ n → number_in n (field_bytes n value ++ rest) ≡ value }
 {}
 
-/// Bytes begin with the field of the number that they read as.
+/// The number that bytes read as is written as the bytes that they begin with.
 pub fn spelled_again()
     ensures { (n : ℕ) (bytes : List ℕ) → AreBytes bytes → n ≤ length bytes → field_bytes n (number_in n bytes) ++ drop n bytes ≡ bytes }
 {}
 
-/// A number of n bytes depends on its n bytes alone.
+/// A number of n bytes depends on these n bytes alone.
 pub fn its_bytes_alone()
     ensures { (n : ℕ) (xs ys : List ℕ) → take n xs ≡ take n ys → number_in n xs ≡ number_in n ys }
 {}

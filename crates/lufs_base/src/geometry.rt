@@ -18,7 +18,7 @@ pub const PAYLOAD: usize = 504;
 /// The sector of the superblock.
 pub const SUPERBLOCK_SECTOR: u64 = 16;
 
-/// Whether a number is from `low` to `high` and a multiple of `step`.
+/// Whether a number is between `low` and `high`, both allowed, and a multiple of `step`.
 pub fn is_step(low: u64, high: u64, step: u64, n: u64) -> bool
     requires { 0 < step }
     ensures { result ≡ is_step low high step n }
@@ -36,7 +36,7 @@ pub struct Geometry {
     pub bpg: u32,
     /// Inodes of a group.
     pub ipg: u32,
-    /// Sectors of the log, its header among them.
+    /// Sectors of the log, with its header.
     pub log: u32,
 }
 
@@ -143,7 +143,7 @@ pub fn one_region()
     ensures { (g : Geometry) (b : ℕ) (r s : Region) → IsGeometry g → InRegion g b r → InRegion g b s → r ≡ s }
 {}
 
-/// Each block of the volume lies in the region of what it is for.
+/// Each block of the volume lies within the limits of the region that it is said to be in.
 pub fn its_region()
     ensures { (g : Geometry) (b : ℕ) → IsGeometry g → b < blocks_of g → InRegion g b (region_of g b) }
 {}

@@ -7,8 +7,8 @@ use crate::Mem;
 use std::alloc::Global;
 use std::marker::Model;
 
-/// The bytes that a walk or a caller names a directory entry by. A directory gives only names that
-/// are allowed (`docs/FORMAT.md`, "Directory chunks"), but a text may ask for any.
+/// The name of a directory entry, or one that a path asks for. A directory gives only names that are allowed
+/// (`docs/FORMAT.md`, "Directory chunks"), but a path may ask for any.
 #[derive(Debug, Drop)]
 pub struct Name {
     bytes: Vec<u8>,

@@ -7,14 +7,14 @@ use crate::mkfs::MkfsEnding;
 use crate::scan::ScanEnding;
 use host_io::HostError;
 
-/// How a command ended, with the name of what it ended at.
+/// How a command ended, with the name of the volume where a line names it.
 #[derive(Debug, Drop)]
 pub(crate) enum Ending<'a> {
-    /// The words are no command.
+    /// The words aren't a command.
     Usage,
     /// There is nothing of that name.
     Missing(&'a str),
-    /// The disk of that name failed, or the host that was to give it.
+    /// The disk of that name failed, or the host failed to lend it.
     DiskFault(&'a str),
     /// Memory ran out.
     NoMemory,
@@ -24,7 +24,7 @@ pub(crate) enum Ending<'a> {
 }
 
 impl<'a> Ending<'a> {
-    /// The ending of a command that the host gave nothing of that name.
+    /// How a command ended that asked the host for this name and got an error.
     pub(crate) fn refused(error: HostError, name: &'a str) -> Self
         ensures { IsRefusal error name.now result }
     {
@@ -35,7 +35,7 @@ impl<'a> Ending<'a> {
         }
     }
 
-    /// The exit status of the program, where its text was put.
+    /// The exit status of the program, if the text of the ending was put whole.
     pub(crate) fn status(&self) -> u8
         ensures { result ≡ status_of self.now }
     {

@@ -14,7 +14,7 @@ pub(crate) struct VolumeNumbers {
     pub(crate) bpg: u64,
     /// Inodes of a group.
     pub(crate) ipg: u64,
-    /// Sectors of the log, its header among them.
+    /// Sectors of the log, with its header.
     pub(crate) log: u64,
 }
 

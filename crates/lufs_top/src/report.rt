@@ -16,7 +16,7 @@ use host_io::{Sink, SinkFault};
 use itoa::Buffer;
 use volume_model::{Counts, Verdict};
 
-/// The status of a sink that failed, or that the host didn't give.
+/// The status where standard output failed, or the host didn't lend it.
 pub(crate) const REPLY_FAULT: u8 = 5;
 
 // Puts two texts, one after the other.
@@ -131,14 +131,14 @@ fn put_ending<K: Sink>(out: &mut K, ending: &Ending<'_>) -> Result<(), SinkFault
     }
 }
 
-// The status where a put failed: success is told as a fault of the reply.
+// The status where a put failed: 5 in place of 0.
 fn status_if_cut(status: u8) -> u8
     ensures { result ≡ status_if_cut status }
 {
     if status == 0 { REPLY_FAULT } else { status }
 }
 
-/// Says how a command ended: puts its text, and answers its status; that of a failed put in place of 0.
+/// Says how a command ended: puts its text and answers its status. If a put failed, it answers 5 in place of 0.
 pub(crate) fn report<K: Sink>(out: &mut K, ending: &Ending<'_>) -> u8
     ensures { Says ending.now result (K.told out.old) (K.told out.new) }
 {

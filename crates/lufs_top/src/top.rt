@@ -40,7 +40,7 @@ fn run_words<'a, H: Host>(alloc: Global, host: &mut H, words: &'a [String]) -> E
     }
 }
 
-// The status of a run that the host gave no standard output.
+// The status of a run to which the host lent no standard output.
 fn status_without_output(error: HostError) -> u8
     ensures { result ≡ status_without_output error }
 {
@@ -51,9 +51,9 @@ fn status_without_output(error: HostError) -> u8
 }
 
 /// Runs a command: `scan VOL` prints the committed transactions in the log of a volume, `check VOL` tells
-/// whether it is sound once its log is replayed, and `mkfs VOL G BPG IPG L` makes an empty volume. It answers
-/// the exit status, prints one line where it isn't 0, gives back what it took, and always returns. Where memory
-/// runs out a run may end anywhere, with status 12 (`README.md`, "Statuses").
+/// whether the volume is sound once its log is replayed, and `mkfs VOL G BPG IPG L` makes an empty volume. It
+/// answers the exit status, prints one line where that isn't 0, gives back what it took, and always returns.
+/// Where memory runs out a run may end anywhere, with status 12 (`docs/FORMAT.md`, "Statuses").
 pub fn run<H: Host>(alloc: Global, host: &mut H, words: &[String]) -> u8
     // How it ended, what it did and what it printed, by the command of the words.
     ensures ran { Runs (command_of words.now) result (H.outside host.old) (H.outside host.new) }

@@ -34,7 +34,7 @@ fn numbers_of(groups: &str, bpg: &str, ipg: &str, log: &str) -> Option<VolumeNum
     })
 }
 
-/// The command of these words, if they are one (`README.md`, "Statuses").
+/// The command of these words, if they are one.
 #[tactic(auto, unfolding(crate::specs::Words::command_of))]
 pub(crate) fn command_of(words: &[String]) -> Option<Command<'_>>
     ensures { option_map command_meant result ≡ command_of words.now }

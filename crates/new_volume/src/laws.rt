@@ -1,4 +1,4 @@
-//! What a crash may leave of a volume's making, and what a new volume stands for.
+//! What a crash may leave while a volume is made, and what a new volume stands for.
 ghost use Rattle.std.specs.Prelude.{◌≡◌, ◌≤◌, ◌<◌, ◌*◌, ◌%◌, ◌^◌, ℕ, length, take, [], Some};
 ghost use Rattle.lufs_base.specs.Layout.{IsGeometry, blocks_of};
 ghost use Rattle.lufs_base.specs.declared.geometry.Geometry.{Geometry};
@@ -12,8 +12,8 @@ ghost use Rattle.new_volume.specs.Mkfs.{mkfs_calls};
 ghost use Rattle.new_volume.specs.MkfsCrash.{IsMkfsOutcome};
 ghost use Rattle.new_volume.specs.NewVolume.{new_tree};
 
-/// What a crash may leave of [`mkfs`](crate::mkfs) after so many of its calls of the disk: the disk as it was, or
-/// no volume, or a volume of this geometry. That volume opens, and its log recovers the content that `mkfs` makes.
+/// What a crash may leave after any number of the disk calls of [`mkfs`](crate::mkfs): the disk as it was, or no
+/// volume, or a volume of this geometry. That volume opens, and its log recovers the content that `mkfs` makes.
 pub fn mkfs_outcomes()
     ensures { (g : Geometry) (moment : ℕ) (before : Image) (k n : ℕ) (image : Image) → IsGeometry g → moment < 2 ^ 64 → length before % 512 ≡ 0 → 4096 * blocks_of g ≤ length before → n ≤ k
         → Outcome (record { opening = before; calls = take k (mkfs_calls g moment) }) n image → IsMkfsOutcome g moment before image }

@@ -1,5 +1,5 @@
-//! Makes an empty volume on a disk, in an order of writes that a crash at any moment of it leaves in order
-//! (`docs/FORMAT.md`, "A new volume").
+//! Makes an empty volume on a disk. Its writes come in such an order that a crash at any moment leaves what was
+//! there, no volume, or the whole new one (`docs/FORMAT.md`, "A new volume").
 #![tactic(auto)]
 
 mod blocks;

@@ -89,8 +89,8 @@ fn write_groups<D: Disk>(
     Ok(())
 }
 
-// Writes the volume: no old one is left once the first sector is kept, and there is a new one once all
-// but its superblock is kept.
+// Writes the volume. Once the first flush is done no old volume is left, and once the second is done all of
+// the new one but its superblock is on the disk.
 fn write_volume<D: Disk>(
     disk: &mut D,
     g: &Geometry,
@@ -137,15 +137,14 @@ fn make_volume<D: Disk>(
     Ok(())
 }
 
-/// Makes an empty volume of this geometry, whose root is made at this moment, in seconds since 1970
-/// (`docs/FORMAT.md`, "A new volume"). All sectors but those of the volume's superblock, log and
-/// metadata stay as they were.
+/// Makes an empty volume of this geometry, whose root directory gets this time, in seconds since 1970
+/// (`docs/FORMAT.md`, "A new volume"). Only the sectors of the volume's superblock, log and metadata change.
 ///
 /// # Errors
 ///
-/// `Sectors` where the disk is too small, and `Mem`: then the disk is as it was. `Disk` where one of
-/// its calls failed, and only there. Then no other call failed, and no write and no flush was
-/// counted after the one that did.
+/// `Sectors` where the disk is too small, and `Mem` where memory ran out; the disk is then as it was. `Disk`
+/// exactly where one of the disk's calls failed. No other call failed then, and no write and no flush was
+/// counted after that call.
 pub fn mkfs<D: Disk>(
     alloc: Global,
     disk: &mut D,

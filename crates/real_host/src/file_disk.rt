@@ -9,8 +9,8 @@ use std::io;
 use std::io::{Seek, SeekFrom};
 use std::os::unix::fs::FileExt;
 
-/// A disk in an open file or block device: the sectors that it had whole when it was opened. It tells
-/// nothing of their content.
+/// A disk in an open file or block device, with as many sectors as the file had whole when it was opened. It
+/// tells nothing of their content.
 #[derive(Drop)]
 pub struct FileDisk<F> {
     file: F,
@@ -96,7 +96,7 @@ impl<F: FileExt + OpenFile + Drop> Disk for FileDisk<F> {
         Ok(())
     }
 
-    /// The file's full sync.
+    /// Syncs the file fully.
     fn flush(&mut self) -> Result<(), DiskFault> {
         if self.file.sync_all().is_err() {
             return Err(self.fault());

@@ -14,8 +14,8 @@ use std::{fs, io};
 /// The name of standard output.
 const STANDARD_OUTPUT: &str = "-";
 
-/// The files of a system by their paths, its standard output under the name `-`, and its clock. It
-/// tells nothing of what they hold. Its counts are those of its `Failed` and of its `Missing`.
+/// The files of a system by their paths, its standard output under the name `-`, and its clock. It tells
+/// nothing of what they hold. It counts each `Failed` and each `Missing` that it answers.
 #[derive(Drop)]
 pub struct FileHost<R> {
     rt: R,
@@ -33,8 +33,8 @@ impl<R: Drop> FileHost<R> {
     }
 }
 
-// Nothing else is read and written by sectors at any place. To open a fifo could wait forever, and to
-// open another device could change it.
+// Nothing else is read and written by sectors at any place. Opening a fifo could wait forever, and opening
+// another device could change it.
 fn may_be_volume(kind: FileType) -> bool {
     kind.is_file() || kind.is_block_device()
 }
@@ -131,7 +131,7 @@ where
         }
     }
 
-    /// A regular file or a block device. Everything else of that name is a failure, and so is every error
+    /// Opens a regular file or a block device. Anything else of that name is a failure, and so is every error
     /// but that there is nothing of that name.
     fn take_disk(&mut self, name: &str) -> Result<FileDisk<R::File>, HostError> {
         match open_volume(&self.rt, name) {

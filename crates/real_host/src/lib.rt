@@ -1,5 +1,5 @@
-//! The outside of the program: disks and sinks over files, standard output, and the clock. It is
-//! proved against the traits, and tells nothing of what files hold.
+//! The outside of the program: disks and sinks over files, standard output, and the clock. They are proved to
+//! keep the clauses of their traits, and tell nothing of what files hold.
 #![tactic(auto)]
 
 mod file_disk;

@@ -6,8 +6,8 @@ ghost use Rattle.volume_model.specs.declared.device_call.DeviceCall.{DeviceCall}
 ghost use Rattle.sector_disk.specs.Continued.{IsCounted, IsAtRest, GoesOnWith};
 ghost use Rattle.sector_disk.specs.Disk.{DiskTold, IsTold};
 
-/// What a crash may leave of a disk whose calls went on where nothing was pending: by all of its calls just what
-/// it may leave by the calls since then alone, made on the content that stood there.
+/// A disk had nothing pending, and made more calls. What a crash may leave by all of its calls is just what it may
+/// leave by the calls since then, made on the content that stood there then.
 pub fn continued_records()
     ensures { (old new : DiskTold) (before : Image) (since : List DeviceCall) (m : ℕ) (image : Image) → IsTold old → IsCounted old → IsAtRest old
         → old.present ≡ Some before → GoesOnWith since old new

@@ -111,7 +111,7 @@ pub(crate) fn crash_image(
     Ok(image)
 }
 
-/// What is chosen is what a crash leaves, sector by sector.
+/// A crash leaves what was chosen, sector by sector.
 pub fn chosen_sectors()
     // A sector that no pair names has its value at the last flush.
     ensures others { (r : Record) (n : ℕ) (choice : List (ℕ × ℕ)) (image : Image) (k : ℕ) → IsOfSectors r → crash_of r n choice ≡ Ok image

@@ -9,7 +9,8 @@ use lufs_base::DiskFault;
 /// A disk of sectors of 512 bytes, which keeps each sector whole (`docs/DEFINITIONS.md`, "What a disk
 /// tells").
 pub trait Disk: Drop {
-    /// What it tells of itself: its counts always, what it holds and which calls changed it as it likes.
+    /// What the disk tells of itself. It always tells its counts, and may leave out what it holds and which calls
+    /// changed it.
     ghost told: { Self → DiskTold };
 
     /// How many sectors it has. No call changes them.
@@ -17,7 +18,7 @@ pub trait Disk: Drop {
         ensures value { result ≡ (told self.now).sectors }
         ensures content { IsOfItsSectors (told self.now) };
 
-    /// How many writes and flushes went. The content of a disk that tells its calls goes with them.
+    /// How many writes and flushes were made. If the disk tells them and its content, the two agree.
     fn calls(&self) -> u64
         ensures value { result ≡ (told self.now).calls }
         ensures content { IsTold (told self.now) };
@@ -34,8 +35,8 @@ pub trait Disk: Drop {
         ensures unwritten { IsUnwritten (told self.old) (told self.new) }
         ensures failure { CountsFailure result (told self.old) (told self.new) };
 
-    /// Writes whole sectors, from sector `first` on. A write that fails may be listed, and then each of its
-    /// sectors is old or new; or nothing was written.
+    /// Writes whole sectors, from sector `first` on. Of a write that fails either nothing was written, or it is
+    /// listed and each of its sectors is old or new.
     fn write(&mut self, first: u64, bytes: &[u8]) -> Result<(), DiskFault>
         requires whole { IsWhole (length bytes.now) }
         requires inside { 512 * first + length bytes.now ≤ 512 * (told self.old).sectors }
@@ -49,7 +50,7 @@ pub trait Disk: Drop {
         ensures err { OnErr result (IsUnwritten (told self.old) (told self.new)) }
         ensures failure { CountsFailure result (told self.old) (told self.new) };
 
-    /// The content that is told has the disk's sectors.
+    /// The content that is told has as many sectors as the disk.
     ghost size: { (d : Self) → IfSome (told d).present (λ image. sectors_of image ≡ (told d).sectors) };
 
     /// A disk that tells its calls tells their number, and what it holds.

@@ -24,7 +24,7 @@ pub enum Fail {
     Flush(u64),
 }
 
-/// A disk in memory, whose calls fail where they are named, and since memory ran out.
+/// A disk in memory. A call fails where a test named it, and a write or a flush also where memory runs out.
 #[derive(Debug, Drop)]
 pub struct MemDisk {
     image: Vec<u8>,
@@ -92,7 +92,7 @@ fn list(
 }
 
 impl MemDisk {
-    /// A disk of this image, whose named calls fail.
+    /// A disk of this image, of which these calls fail.
     pub fn new(image: Vec<u8>, fails: Vec<Fail>) -> Self
         requires { length image.items % 512 ≡ 0 }
         ensures { result ≡ new_state image.items fails.items }
@@ -112,10 +112,11 @@ impl MemDisk {
         }
     }
 
-    /// What a crash after the first n listed calls leaves, where each sector that `choice` names has its j-th value
-    /// since the last flush, from 1, and every other sector its value at that flush. Where no flush is among these
-    /// calls, the first image counts as one. Of two pairs that name one sector the later counts. `NoSuch` is the first
-    /// pair whose value isn't there, also of a sector past the disk.
+    /// What a crash after the first n listed calls leaves. Each pair `(sector, j)` of `choice` gives that sector the
+    /// j-th value that was written to it since the last flush, counted from 1; every other sector has its value at
+    /// that flush. Where no flush is among these calls, the first image counts as one. Of two pairs that name one
+    /// sector the later counts. `NoSuch` names the first pair whose value isn't there, or whose sector is past the
+    /// disk.
     pub fn crash(&self, alloc: Global, n: u64, choice: &[(u64, u32)]) -> Result<Vec<u8>, CrashError>
         requires { n ≤ length self.now.calls }
         ensures ok { IfOk result (λ image. crash_of (record_of self.now) n choice.now ≡ Ok image.items) }
@@ -139,7 +140,7 @@ impl MemDisk {
         DiskFault
     }
 
-    // Counts a call that failed since memory ran out.
+    // Counts a call that failed because memory ran out.
     fn starve(&mut self) -> DiskFault
         ensures { self.new ≡ starved_more self.old }
     {
@@ -147,7 +148,7 @@ impl MemDisk {
         self.fault()
     }
 
-    /// How many calls failed since memory ran out.
+    /// How many calls failed because memory ran out.
     pub fn starved(&self) -> u64
         ensures { result ≡ self.now.starved }
     {
@@ -193,8 +194,8 @@ impl Disk for MemDisk {
         Ok(())
     }
 
-    /// Fails exactly where the call was named, or memory for its place in the list ran out. In the
-    /// first case it is listed, and each sector stays old.
+    /// Fails exactly where the call was named, or memory for its place in the list ran out. A named write that
+    /// fails is listed, and each sector stays old.
     fn write(&mut self, first: u64, bytes: &[u8]) -> Result<(), DiskFault>
         requires whole { IsWhole (length bytes.now) }
         requires inside { 512 * first + length bytes.now ≤ 512 * sectors_of self.old.image }

@@ -10,8 +10,8 @@ use crate::image::put;
 use lufs_base::DiskFault;
 use std::marker::Model;
 
-/// A disk in memory that never fails, and takes no memory. It tells what it holds, counts its calls, and
-/// lists none.
+/// A disk in memory that never fails and whose calls take no memory. It tells what it holds, and counts its calls
+/// without listing them.
 #[derive(Debug, Drop)]
 pub struct SureDisk {
     image: Vec<u8>,

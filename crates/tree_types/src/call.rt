@@ -15,7 +15,7 @@ pub enum Call {
         path: PathText,
         mode: u16,
     },
-    /// Gives the inode that `old` names the name `new` too.
+    /// Gives the inode that `old` names a second name, `new`.
     Link {
         old: PathText,
         new: PathText,
@@ -25,12 +25,12 @@ pub enum Call {
         text: Bytes,
         path: PathText,
     },
-    /// Moves a name, in place of what `new` names.
+    /// Moves the name `old` to `new`, and replaces what `new` named.
     Rename {
         old: PathText,
         new: PathText,
     },
-    /// Removes a name of a file or of a link.
+    /// Removes a name of a file or of a symbolic link.
     Remove {
         path: PathText,
     },
@@ -60,7 +60,7 @@ pub enum Call {
         path: PathText,
         size: u64,
     },
-    /// Is answered once all that came before it is on the disk for good.
+    /// Is answered once all that came before it is committed.
     Fsync {
         path: PathText,
     },
@@ -105,6 +105,6 @@ pub struct Line {
     pub cred: Cred,
     /// Whether the reply waits until the call is committed.
     pub sync: bool,
-    /// None where the line is no call.
+    /// None where the line isn't a call.
     pub call: Option<Call>,
 }

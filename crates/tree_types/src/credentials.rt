@@ -5,7 +5,7 @@ ghost use Rattle.tree_types.specs.Permits.{rights_for, permits};
 /// Who makes a call.
 #[derive(Clone, Copy, Debug, PartialEq, Eq)]
 pub struct Cred {
-    /// 0 is the superuser, whom everything is permitted.
+    /// 0 is the superuser, who is permitted everything.
     pub uid: u32,
     pub gid: u32,
 }

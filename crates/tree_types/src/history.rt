@@ -11,7 +11,7 @@ pub struct Entry {
     pub line: u32,
     /// The inode that the call made.
     pub ino: Option<u32>,
-    /// When the step began in which the call was carried out.
+    /// When the step in which the call was carried out began.
     pub start: u64,
     /// When that step ended.
     pub at: u64,
@@ -20,7 +20,7 @@ pub struct Entry {
     /// Whether the reply waits until the entry is committed.
     pub sync: bool,
     pub reply: Reply,
-    /// None where the line is no call.
+    /// None where the line isn't a call.
     pub call: Option<Call>,
     pub cred: Cred,
 }

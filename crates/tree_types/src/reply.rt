@@ -5,13 +5,13 @@ use lufs_base::Bytes;
 /// Why a call is refused (`docs/CALLS.md`, "Refusals").
 #[derive(Clone, Copy, Debug, PartialEq, Eq)]
 pub enum Refusal {
-    /// The line is no call.
+    /// The line isn't a call.
     Syntax,
     /// An earlier call of the disk failed, so nothing is changed any more.
     Locked,
     /// There is nothing of that name.
     Noent,
-    /// What is no directory stands where one is needed.
+    /// Something else stands where a directory is needed.
     Notdir,
     /// More than eight symbolic links on one walk.
     Loop,
@@ -23,7 +23,7 @@ pub enum Refusal {
     Isdir,
     /// The directory has names in it.
     Notempty,
-    /// The call makes no sense for what the path names.
+    /// The call isn't allowed for what the path names.
     Inval,
     /// A name, path or text is too long.
     Nametoolong,

@@ -12,7 +12,7 @@ pub enum Wait {
         need: u32,
         ring: u32,
     },
-    /// A commit that waits until so many calls under way have ended.
+    /// A commit, which waits until so many calls that are under way have ended.
     Closing {
         members: u32,
     },

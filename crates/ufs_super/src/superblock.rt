@@ -11,7 +11,7 @@ use lufs_base::{Geometry, are_zeros, clear, get_u32, is_step, put_u32};
 /// The first four bytes of a superblock, as in UFS.
 const MAGIC: u32 = 0x0001_1954;
 
-/// The sector is no superblock, or the disk is smaller than the superblock says.
+/// The sector isn't a superblock, or the disk is smaller than the superblock says.
 #[derive(Clone, Copy, Debug, PartialEq, Eq)]
 pub struct NotVolume;
 
@@ -28,8 +28,8 @@ fn is_geometry(g: &Geometry) -> bool
         && 2 + g.ipg / 32 <= g.bpg
 }
 
-/// The geometry that a superblock gives on a disk of so many sectors (`docs/FORMAT.md`,
-/// "Superblock"). It is refused exactly where the format gives none.
+/// Reads the geometry from a superblock, on a disk of so many sectors (`docs/FORMAT.md`, "Superblock"). It
+/// answers an error exactly where the format gives no geometry.
 pub fn read_super(sector: &[u8], sectors: u64) -> Result<Geometry, NotVolume>
     requires { length sector.now ≡ 512 }
     ensures value { result_ok result ≡ super_of sector.now sectors }
@@ -78,12 +78,12 @@ pub fn write_super(g: &Geometry, out: &mut [u8])
     put_u32(out, 24, g.total());
 }
 
-/// On a disk that has room for the volume, a superblock reads as it was written.
+/// On a disk with room for the volume, a superblock reads as the geometry that it was written from.
 pub fn superblock_read_back()
     ensures { (g : Geometry) (sectors : ℕ) → IsGeometry g → 8 * blocks_of g ≤ sectors → super_of (super_bytes g) sectors ≡ Some g }
 {}
 
-/// A sector that gives a geometry is the one that it is written as.
+/// A geometry that was read from a sector is written as that same sector.
 pub fn superblock_spelled_again()
     ensures { (g : Geometry) (sector : List ℕ) (sectors : ℕ) → AreBytes sector → length sector ≡ 512
         → super_of sector sectors ≡ Some g → super_bytes g ≡ sector }

@@ -6,6 +6,6 @@ use lufs_base::Bytes;
 pub enum DeviceCall {
     /// These bytes, whole sectors, were to be written from sector `first` on.
     Write { first: u64, bytes: Bytes },
-    /// All that was written before is to be kept by a crash.
+    /// A crash is to keep all that was written before.
     Flush,
 }

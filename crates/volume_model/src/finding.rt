@@ -4,23 +4,23 @@
 /// looks for them. Each comes with the number of a group, an inode or a block.
 #[derive(Clone, Copy, Debug, PartialEq, Eq)]
 pub enum Kind {
-    /// No record of this group stands in its group block.
+    /// The group block of this group doesn't begin with its record.
     Group,
-    /// No record stands in the place of this inode's, or inode 0 or 1 is in use.
+    /// The bytes in the place of this inode's record aren't a record, or inode 0 or 1 is in use.
     Inode,
     /// A number in the record of this inode, or in its pointer block, is out of range.
     Fields,
-    /// The root is no directory in use.
+    /// The root isn't a directory in use.
     Root,
     /// Two places or more claim this block.
     Twice,
-    /// A chunk of this directory is none, or its names are not as they should be.
+    /// A chunk of this directory breaks the format, its first two names aren't `.` and `..`, or a name is in it twice.
     Chunk,
     /// This directory names an inode that isn't in use.
     Name,
     /// This directory doesn't have its one place in the tree.
     Parent,
-    /// This inode has another number of names than its record says.
+    /// The number of names of this inode isn't the one in its record.
     Links,
     /// The bit of this inode doesn't say whether it is in use.
     InodeBit,
@@ -41,7 +41,8 @@ pub struct Counts {
     pub free: u32,
 }
 
-/// What a check finds: a sound volume, or the first rule that is broken, with the lowest number for which it is.
+/// What a check answers: a sound volume with its counts, or the first rule that is broken, with the lowest number
+/// for which it is.
 #[derive(Clone, Copy, Debug, PartialEq, Eq)]
 pub enum Verdict {
     Clean(Counts),

@@ -50,8 +50,8 @@ impl BlockList {
     }
 }
 
-/// What a call that is under way holds of a volume: an inode and blocks that are free, but that no
-/// other call may take.
+/// What a call that is under way holds of a volume: an inode and blocks that are still free, but that no other call
+/// may take.
 #[derive(Debug, Drop)]
 pub struct Hand {
     pub inode: Option<u32>,

@@ -12,7 +12,7 @@ pub struct Dinode {
     pub gid: u32,
     /// Bytes.
     pub size: u64,
-    /// Seconds.
+    /// Seconds since 1970.
     pub mtime: u64,
     pub direct: [u32; 12],
     pub indirect: [u32; 3],

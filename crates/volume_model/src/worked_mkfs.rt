@@ -6,7 +6,7 @@ ghost use Rattle.volume_model.specs.MkfsImage.{made_group, made_block};
 ghost use Rattle.volume_model.specs.Texts.{mkfs_text};
 ghost use Rattle.volume_model.specs.Worked.{smallest};
 
-/// The parts of the smallest volume, made at moment 1000.
+/// The parts of the smallest volume, made at time 1000.
 pub fn new_volume()
     ensures text { mkfs_text smallest ≡ codes "made blocks 99 inodes 30 free 61 ring 255\n" }
     ensures inode_bits { take 2 (made_group smallest 0).inode_bits ≡ 7 ∷ 0 ∷ [] }
