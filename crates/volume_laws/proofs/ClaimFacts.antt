@@ -88,7 +88,7 @@ index_claimed r i u index used some =
     (Contains-append_right (map (pointer_claim i) u.pointers) (index_claims i 0 u.numbers) claim here) (not_from_false (eqb (slice_index u.numbers index) 0) some))
 
 -- what holds of the claims of an inode, if it is in use
-all_claims_of : (P : Claim → Type 0) (i : ℕ) (o : Option UsedInode) → ((u : UsedInode) → o ≡ Some u → All P (claims_in i u)) → All P (option_map_or (claims_in i) o [])
+pub all_claims_of : (P : Claim → Type 0) (i : ℕ) (o : Option UsedInode) → ((u : UsedInode) → o ≡ Some u → All P (claims_in i u)) → All P (option_map_or (claims_in i) o [])
 all_claims_of P i None each = All-nil P
 all_claims_of P i (Some u) each = each u refl
 

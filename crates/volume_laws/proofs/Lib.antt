@@ -5,6 +5,7 @@ pub mod FieldFacts
 pub mod ClaimFacts
 pub mod ReadLengths
 pub mod LaidClaims
+pub mod StoredClaims
 pub mod WholeBlocks
 pub mod SameReading
 pub mod SoundParts
@@ -22,6 +23,7 @@ pub mod BitsOfRecords
 pub mod GroupRecords
 pub mod InodeRecords
 pub mod ListParts
+pub mod PutParts
 pub mod RecordPlaces
 pub mod OneEntry
 pub mod RecordChanges
@@ -30,4 +32,8 @@ pub mod LaidBytes
 pub mod BodyChanges
 pub mod ChunkChange
 pub mod NumberChange
+pub mod PointerLaws
 pub mod UnclaimedBlocks
+pub mod NodeFacts
+pub mod NodeFields
+pub mod ContentLaws

@@ -94,7 +94,7 @@ no_thirteenth blocks d none direct =
     ap (λ (l : List ℕ). slice_index (d.direct ++ (l ++ [])) 12) behind
     ∙ get_or-append_right d.direct (zeros ++ []) 12 12 0 direct (omega arith)
 
-second_of : (first second : Bool) → (first || second) ≡ true → first ≡ false → second ≡ true
+pub second_of : (first second : Bool) → (first || second) ≡ true → first ≡ false → second ≡ true
 second_of first second either no_first = elim (or_cases first second either) [
   | inl is ↦ absurd (false≢true (sym no_first ∙ is))
   | inr is ↦ is
@@ -134,7 +134,7 @@ sized_as_directory d = is_directory d.mode && d.size % 512 == 0 && nat_le 512 d.
 abbrev sized_as_link : Dinode → Bool
 sized_as_link d = is_link d.mode && nat_le 1 d.size && nat_le d.size 1024
 
-sized : (g : Geometry) (d : Dinode) → has_right_size g d ≡ true → is_file d.mode ≡ false → (sized_as_directory d ≡ true) ⊎ (sized_as_link d ≡ true)
+pub sized : (g : Geometry) (d : Dinode) → has_right_size g d ≡ true → is_file d.mode ≡ false → (sized_as_directory d ≡ true) ⊎ (sized_as_link d ≡ true)
 sized g d right no_file = elim (or_cases (sized_as_file g d || sized_as_directory d) (sized_as_link d) right) [
   | inl either ↦
       inl (second_of (sized_as_file g d) (sized_as_directory d) either
@@ -142,7 +142,7 @@ sized g d right no_file = elim (or_cases (sized_as_file g d || sized_as_director
   | inr link ↦ inr link
 ]
 
-directory_size : (g : Geometry) (d : Dinode) → has_right_size g d ≡ true → is_file d.mode ≡ false → is_directory d.mode ≡ true → d.size % 512 ≡ 0
+pub directory_size : (g : Geometry) (d : Dinode) → has_right_size g d ≡ true → is_file d.mode ≡ false → is_directory d.mode ≡ true → d.size % 512 ≡ 0
 directory_size g d right no_file directory = elim (sized g d right no_file) [
   | inl chunks ↦ eqb-true (d.size % 512) 0 (and_parts _ _ (and_parts _ _ (and_parts _ _ chunks).0).0).1
   | inr link ↦
@@ -151,7 +151,7 @@ directory_size g d right no_file directory = elim (sized g d right no_file) [
       absurd (omega (arith, above, below))
 ]
 
-link_size : (g : Geometry) (d : Dinode) → has_right_size g d ≡ true → is_file d.mode ≡ false → is_directory d.mode ≡ false → size_in_blocks d.size ≡ 1
+pub link_size : (g : Geometry) (d : Dinode) → has_right_size g d ≡ true → is_file d.mode ≡ false → is_directory d.mode ≡ false → size_in_blocks d.size ≡ 1
 link_size g d right no_file no_directory = elim (sized g d right no_file) [
   | inl chunks ↦ absurd (false≢true (sym no_directory ∙ (and_parts _ _ (and_parts _ _ (and_parts _ _ chunks).0).0).0))
   | inr link ↦

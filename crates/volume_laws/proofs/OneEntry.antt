@@ -30,10 +30,10 @@ abbrev nodes_by : (Option UsedInode → Option Node) → Reading → Tree
 nodes_by f r i = f (used_at r i)
 
 -- the node of inode i, and that of another one
-node_there : (tree : Tree) (i : ℕ) (node : Option Node) (k : ℕ) → k ≡ i → with_node tree i node k ≡ node
+pub node_there : (tree : Tree) (i : ℕ) (node : Option Node) (k : ℕ) → k ≡ i → with_node tree i node k ≡ node
 node_there tree i node k same = ap (λ (t : Bool). elim t [ true ↦ node | false ↦ tree k ]) (eq-eqb k i same)
 
-other_node : (tree : Tree) (i : ℕ) (node : Option Node) (k : ℕ) → k ≢ i → with_node tree i node k ≡ tree k
+pub other_node : (tree : Tree) (i : ℕ) (node : Option Node) (k : ℕ) → k ≢ i → with_node tree i node k ≡ tree k
 other_node tree i node k away = ap (λ (t : Bool). elim t [ true ↦ node | false ↦ tree k ]) (ne_eqb k i away)
 
 module _ (g : Geometry) (blocks others : Blocks) where

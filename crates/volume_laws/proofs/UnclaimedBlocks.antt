@@ -25,7 +25,7 @@ nothing_read g r b body free =
     max-zero (length_of_records g b) (greatest_on (claim_length r) (claims_of r) b) 0 records claims (omega arith)
 
 -- so agreement elsewhere is agreement
-agree_everywhere : (lengths : ℕ → ℕ) (blocks others : Blocks) (b at n : ℕ) → lengths b ≡ 0 → AgreeBut lengths blocks others b at n
+pub agree_everywhere : (lengths : ℕ → ℕ) (blocks others : Blocks) (b at n : ℕ) → lengths b ≡ 0 → AgreeBut lengths blocks others b at n
     → (c : ℕ) → take (lengths c) (others c) ≡ take (lengths c) (blocks c)
 agree_everywhere lengths blocks others b at n none agree c = elim (cases_eq c b) [
   | inl same ↦

@@ -4,7 +4,7 @@ use Rattle.lufs_base.specs.Fields.{put_at}
 use Rattle.lufs_base.specs.declared.geometry.Geometry.{Geometry}
 use Rattle.volume_model.specs.declared.directory.Slot.{Slot}
 use Rattle.volume_model.specs.Format.{Blocks, GroupRecord}
-use Rattle.volume_model.specs.Sound.{UsedInode, InodeState, Reading, reading_of, read_length, metadata_length}
+use Rattle.volume_model.specs.Sound.{UsedInode, InodeState, Reading, reading_of, read_length, metadata_length, FileNode}
 
 -- the blocks with these bytes in block b, from byte `at` on
 abbrev pub with_bytes : Blocks → (b at : ℕ) → List ℕ → Blocks
@@ -40,3 +40,11 @@ with_chunk u k chunk = record u { chunks = slice_set u.chunks k chunk }
 -- the inode with another number at an index
 abbrev pub with_number : UsedInode → (index number : ℕ) → UsedInode
 with_number u index number = record u { numbers = slice_set u.numbers index number }
+
+-- the inode with these numbers from an index on
+abbrev pub with_numbers : UsedInode → (index : ℕ) → (numbers : List ℕ) → UsedInode
+with_numbers u index numbers = record u { numbers = put_at u.numbers index numbers }
+
+-- the file with these bytes at an index
+abbrev pub with_block : FileNode → (index : ℕ) → Option (List ℕ) → FileNode
+with_block file index bytes = record file { blocks = slice_set file.blocks index bytes }

@@ -1,13 +1,14 @@
-// A few bytes of a content change, and one entry of its reading and of its tree.
+// The bytes of one record or chunk change, and one entry of the reading and of the tree; or bytes that nothing reads.
 ghost use Rattle.std.specs.Prelude.{◌≡◌, ◌<◌, ◌≤◌, ◌==◌, ℕ, ◌+◌, ◌*◌, ◌/◌, ◌%◌, List, length, take, drop, slice_index, Some, true, false, option_map};
-ghost use Rattle.lufs_base.specs.Fields.{AreBytes, u32_at};
+ghost use Rattle.lufs_base.specs.Fields.{AreBytes};
 ghost use Rattle.lufs_base.specs.Layout.{IsGeometry, blocks_of, group_start, inode_address};
 ghost use Rattle.lufs_base.specs.declared.geometry.Geometry.{Geometry};
 ghost use Rattle.volume_model.specs.Format.{Blocks, IsWhole, inodes_of, is_body, is_directory};
-ghost use Rattle.volume_model.specs.Sound.{direct_blocks, pointers_of_block, UsedInode, InUse, Reading, reading_of, is_claimed, read_length, AgreeWhereRead, AgreeButInFileBytes, group_at, state_at, used_of, used_at, chunk_at, IsLaid, with_node, shape_of, shape_of_node, node_of, tree_of};
-ghost use Rattle.volume_laws.specs.Changes.{with_bytes, AgreeBut, AgreeWhereReadBut, AgreeInMetadataBut, with_state, with_group, with_chunk, with_number};
+ghost use Rattle.volume_model.specs.Sound.{UsedInode, InUse, Reading, reading_of, is_claimed, read_length, AgreeWhereRead, AgreeButInFileBytes, group_at, state_at, used_of, used_at, chunk_at, IsLaid, with_node, shape_of, shape_of_node, node_of, tree_of};
+ghost use Rattle.volume_laws.specs.Changes.{with_bytes, AgreeBut, AgreeWhereReadBut, AgreeInMetadataBut, with_state, with_group, with_chunk};
 
-/// The 128 bytes of an inode's record change what stands in that inode's place, and nothing else.
+/// The 128 bytes of an inode's record change what stands in that inode's place, and nothing else. Blocks that no inode
+/// claimed before may change with it as they like, since nothing was read of them: what the record claims now, too.
 pub fn one_inode_record()
     ensures reading { (g : Geometry) (blocks others : Blocks) (i : ℕ) → IsGeometry g → IsLaid g (reading_of g blocks) → i < inodes_of g
         → AgreeInMetadataBut g blocks others (inode_address g i / 4096) (inode_address g i % 4096) 128
@@ -44,22 +45,6 @@ pub fn one_chunk()
         → is_directory u.inode.mode ≡ true → k < length u.chunks → (slice_index u.numbers (k / 8) == 0) ≡ false
         → AgreeInMetadataBut g blocks others (slice_index u.numbers (k / 8)) (512 * (k % 8)) 512
         → shape_of (tree_of g others) ≡ with_node (shape_of (tree_of g blocks)) i (Some (shape_of_node (node_of others (with_chunk u k (chunk_at others u.numbers k))))) }
-{}
-
-/// The four bytes of a number in the pointer block of what is no directory change the number at its index, and nothing else.
-pub fn one_number()
-    ensures reading { (g : Geometry) (blocks others : Blocks) (i j : ℕ) (u : UsedInode) → IsGeometry g → IsLaid g (reading_of g blocks) → used_at (reading_of g blocks) i ≡ Some u
-        → is_directory u.inode.mode ≡ false → j < pointers_of_block → (slice_index u.inode.indirect 0 == 0) ≡ false
-        → AgreeInMetadataBut g blocks others (slice_index u.inode.indirect 0) (4 * j) 4
-        → reading_of g others ≡ with_state (reading_of g blocks) i (InUse (with_number u (direct_blocks + j) (u32_at (others (slice_index u.inode.indirect 0)) (4 * j)))) }
-    ensures tree { (g : Geometry) (blocks others : Blocks) (i j : ℕ) (u : UsedInode) → IsGeometry g → IsLaid g (reading_of g blocks) → used_at (reading_of g blocks) i ≡ Some u
-        → is_directory u.inode.mode ≡ false → j < pointers_of_block → (slice_index u.inode.indirect 0 == 0) ≡ false
-        → AgreeWhereReadBut g blocks others (slice_index u.inode.indirect 0) (4 * j) 4
-        → tree_of g others ≡ with_node (tree_of g blocks) i (Some (node_of others (with_number u (direct_blocks + j) (u32_at (others (slice_index u.inode.indirect 0)) (4 * j))))) }
-    ensures shape { (g : Geometry) (blocks others : Blocks) (i j : ℕ) (u : UsedInode) → IsGeometry g → IsLaid g (reading_of g blocks) → used_at (reading_of g blocks) i ≡ Some u
-        → is_directory u.inode.mode ≡ false → j < pointers_of_block → (slice_index u.inode.indirect 0 == 0) ≡ false
-        → AgreeInMetadataBut g blocks others (slice_index u.inode.indirect 0) (4 * j) 4
-        → shape_of (tree_of g others) ≡ with_node (shape_of (tree_of g blocks)) i (Some (shape_of_node (node_of others (with_number u (direct_blocks + j) (u32_at (others (slice_index u.inode.indirect 0)) (4 * j)))))) }
 {}
 
 /// Nothing is read of a body block that no inode claims, so what agrees but in such a block agrees.
