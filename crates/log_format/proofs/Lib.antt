@@ -1,12 +1,8 @@
-pub mod HeaderTests
-pub mod HeaderBytes
 pub mod Order
 pub mod RunSteps
 pub mod Placed
 pub mod SectorSteps
 pub mod TxRecords
-pub mod TxSize
-pub mod RunRead
-pub mod SectorsBack
-pub mod TxRead
-pub mod WholeRun
+pub mod FrontMore
+pub mod RunPieces
+pub mod ReaderSteps

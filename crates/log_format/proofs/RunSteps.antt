@@ -3,17 +3,11 @@ use Rattle.std.proofs.Common.{◌≡◌, ℕ, suc, ◌+◌, ◌-◌, ◌<◌, Li
 use Rattle.std.proofs.lemmas.List.{drop-drop, take_rest, length_push}
 use Rattle.lufs_base.specs.declared.geometry.Geometry.{Geometry}
 use Rattle.lufs_base.specs.declared.delta.Delta.{Delta}
-use Rattle.volume_model.specs.Log.{logged_len, Front as RecordFront, Logged as delta_front, front_of, run_at, run_after}
+use Rattle.volume_model.specs.Log.{logged_len, Logged as delta_front, front_of, run_after}
+pub use Rattle.log_laws.proofs.RunFront.{run_by_front}
 use Rattle.log_format.specs.Answers.{IsFront, LoggedIsNext, IsNext}
 use Rattle.log_format.specs.declared.records.Front.{Front}
 use Rattle.log_format.specs.declared.records.Front.TheVariants.{Logged}
-
--- the run by what stands at its front
-pub run_by_front : (g : Geometry) (tid n : ℕ) (before : List Delta) (bytes : List ℕ) (front : RecordFront) → front_of g tid before bytes ≡ front
-    → run_after g tid (suc n) before bytes ≡ run_at front before (λ d. run_after g tid n (before ++ d ∷ []) (drop (16 + logged_len d.kind d.len) bytes))
-unfolding run_after
-run_by_front g tid n before bytes front is =
-    ap (λ (f : RecordFront). run_at f before (λ d. run_after g tid n (before ++ d ∷ []) (drop (16 + logged_len d.kind d.len) bytes))) is
 
 -- the answer about the rest of a payload from `at` on
 pub front_at : (g : Geometry) (tid at : ℕ) (slice before : List Delta) (payload : List ℕ) (answer front : Front) → slice ≡ before → answer ≡ front

@@ -1,5 +1,5 @@
 -- The records of a transaction, one after the other.
-use Rattle.std.proofs.Common.{◌≡◌, ℕ, ◌+◌, ◌≤◌, ◌<◌, List, [], ◌∷◌, ◌++◌, length, take, get_or, sym, ap, ◌∙◌, arith, length-append}
+use Rattle.std.proofs.Common.{◌≡◌, ℕ, ◌+◌, ◌≤◌, ◌<◌, List, [], ◌∷◌, ◌++◌, length, take, get_or, sym, ap, ◌∙◌, arith}
 use Rattle.std.specs.List.{flat_map}
 use Rattle.std.proofs.lemmas.List.{take_more, flat_map_more}
 use Rattle.std.proofs.lemmas.List.Folds.{length-flat_map-take}
@@ -41,6 +41,3 @@ commit_behind deltas tid count old new at end count_is room end_is new_is front 
     ∙ take-put_at old (commit_record tid count) at end room end_is
     ∙ ap (λ (l : List ℕ). l ++ commit_record tid count) front
     ∙ ap (λ (n : ℕ). flat_map delta_record deltas ++ commit_record tid n) count_is
-
-pub length-records_of : (deltas : List Delta) (tid : ℕ) → length (records_of deltas tid) ≡ length (flat_map delta_record deltas) + 16
-length-records_of deltas tid = length-append (flat_map delta_record deltas) (commit_record tid (length deltas))

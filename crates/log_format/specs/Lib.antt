@@ -1,2 +1,4 @@
 pub mod InOrder
+pub mod Heads
 pub mod Answers
+pub mod RunReading

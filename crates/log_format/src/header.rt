@@ -1,10 +1,8 @@
-ghost use Rattle.std.specs.Prelude.{◌≡◌, ℕ, List, length, IfOk, Some, ◌<◌};
+//! The header of the log, in its first sector.
+ghost use Rattle.std.specs.Prelude.{◌≡◌, length, IfOk, ◌<◌};
 ghost use Rattle.std.specs.Result.{result_ok};
-ghost use Rattle.lufs_base.specs.Fields.{AreBytes};
 ghost use Rattle.lufs_base.specs.Layout.{IsGeometry, ring_of};
-ghost use Rattle.lufs_base.specs.declared.geometry.Geometry.{Geometry};
-ghost use Rattle.volume_model.specs.declared.log.Header.{Header};
-ghost use Rattle.volume_model.specs.Log.{header_of, header_bytes, MayBeHeader};
+ghost use Rattle.volume_model.specs.Log.{header_of, header_bytes};
 
 use crate::Header;
 use lufs_base::{Geometry, are_zeros, clear, get_u32, put_u32};
@@ -58,14 +56,3 @@ pub fn write_header(header: &Header, out: &mut [u8])
     put_u32(out, 8, header.head);
     put_u32(out, 12, header.tid);
 }
-
-/// A header reads as it was written.
-pub fn header_read_back()
-    ensures { (g : Geometry) (h : Header) → MayBeHeader g h → header_of g (header_bytes h) ≡ Some h }
-{}
-
-/// A sector that is a header is the one that this header is written as.
-pub fn header_spelled_again()
-    ensures { (g : Geometry) (h : Header) (sector : List ℕ) → AreBytes sector → length sector ≡ 512
-        → header_of g sector ≡ Some h → header_bytes h ≡ sector }
-{}

@@ -1,3 +1,4 @@
+//! The types of the records of the log, and how many bytes each kind of delta logs.
 ghost use Rattle.std.specs.Prelude.{◌≡◌};
 ghost use Rattle.volume_model.specs.Log.{type_of, kind_of, logged_len};
 

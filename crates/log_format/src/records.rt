@@ -1,18 +1,20 @@
+//! The records of a run, read with their deltas: which deltas may be logged, and in which order.
 ghost use Rattle.std.specs.Prelude.{◌≡◌, ◌<◌, ◌≤◌, ℕ, List, length, IfOk};
 ghost use Rattle.lufs_base.specs.Layout.{IsGeometry};
-ghost use Rattle.volume_model.specs.Log.{is_home_of, is_part_of_block, may_be_logged, is_zero_block, is_cancel, may_precede, Whole, is_commit, front_of, run_of, AreLoggable};
+ghost use Rattle.volume_model.specs.Log.{is_home_of, is_part_of_block, may_be_logged, is_zero_block, is_cancel, may_precede, Whole, front_of, run_of, AreLoggable};
 ghost use Rattle.lufs_base.specs.declared.delta.Delta.{Delta};
 ghost use Rattle.lufs_base.specs.declared.geometry.Geometry.{Geometry};
 ghost use Rattle.log_format.specs.declared.records.RunError.TheVariants.{Mem};
 ghost use Rattle.log_format.specs.InOrder.{InOrder, last_of, may_stand_after};
 ghost use Rattle.log_format.specs.Answers.{IsFront, LoggedIsNext, IsRun};
+ghost use Rattle.log_format.specs.Heads.{head_of, bare, is_commit_after};
 
 use crate::kinds::{COMMIT, HEAD, kind_of, logged_len};
 use lufs_base::{
     BLOCK, BlockNo, Bytes, Delta, DeltaKind, DeltaList, Geometry, Mem, Region, are_zeros, get_u32,
     get_u64,
 };
-use std::alloc::Global;
+use std::alloc::{AllocError, Global};
 
 /// What the payload of a run is.
 #[derive(Debug, Drop)]
@@ -36,6 +38,14 @@ impl From<lufs_base::Mem> for RunError {
     ghost from_gives = { λ _ e. e ≡ Mem };
 
     fn from(_: lufs_base::Mem) -> RunError {
+        RunError::Mem
+    }
+}
+
+impl From<AllocError> for RunError {
+    ghost from_gives = { λ _ e. e ≡ Mem };
+
+    fn from(_: AllocError) -> RunError {
         RunError::Mem
     }
 }
@@ -80,7 +90,7 @@ fn is_part_of_block(kind: DeltaKind, place: u32, len: u32) -> bool
 
 // Whether a delta of this kind may have this home and this length.
 #[tactic(auto, unfolding(volume_model::specs::Log::LogRecord::may_be_logged))]
-fn may_be_logged(g: &Geometry, kind: DeltaKind, home: u64, len: u32) -> bool
+pub(crate) fn may_be_logged(g: &Geometry, kind: DeltaKind, home: u64, len: u32) -> bool
     requires { IsGeometry g.now }
     ensures { result ≡ may_be_logged g.now kind home len }
 {
@@ -103,10 +113,28 @@ fn is_cancel(kind: DeltaKind) -> bool
     matches!(kind, DeltaKind::Cancel)
 }
 
-// Whether a delta may stand before another of this kind and home.
+/// What the head of a delta's record says.
+#[derive(Clone, Copy, Debug, PartialEq, Eq)]
+pub(crate) struct RecordHead {
+    pub(crate) kind: DeltaKind,
+    pub(crate) home: u64,
+    pub(crate) len: u32,
+}
+
+fn head_of(d: &Delta) -> RecordHead
+    ensures { result ≡ head_of d.now }
+{
+    RecordHead {
+        kind: d.kind,
+        home: d.home,
+        len: d.len,
+    }
+}
+
+// Whether a delta with this head may stand before another of this kind and home.
 #[tactic(auto, unfolding(volume_model::specs::Log::LogRecord::may_precede))]
-fn may_precede(d: &Delta, kind: DeltaKind, home: u64) -> bool
-    ensures { result ≡ may_precede d.now kind home }
+pub(crate) fn may_precede(d: RecordHead, kind: DeltaKind, home: u64) -> bool
+    ensures { result ≡ may_precede (bare d) kind home }
 {
     if d.home > home {
         return false;
@@ -120,25 +148,26 @@ fn may_precede(d: &Delta, kind: DeltaKind, home: u64) -> bool
     !(is_cancel(d.kind) || is_cancel(kind)) || d.home / BLOCK as u64 != home / BLOCK as u64
 }
 
-// Whether the bytes are the commit record after these deltas, with nothing but zeros after it up to
+// Whether the bytes are the commit record after so many deltas, with nothing but zeros after it up to
 // the end of its sector, the last of the run.
-fn is_commit(tid: u32, before: &[Delta], bytes: &[u8]) -> bool
+pub(crate) fn is_commit(tid: u64, count: usize, bytes: &[u8]) -> bool
     requires { 16 ≤ length bytes.now }
-    ensures { result ≡ is_commit tid before.now bytes.now }
+    ensures { result ≡ is_commit_after tid count bytes.now }
 {
-    get_u64(bytes, 0) == u64::from(tid)
-        && get_u32(bytes, 8) as usize == before.len()
+    get_u64(bytes, 0) == tid
+        && get_u32(bytes, 8) as usize == count
         && bytes.len() - HEAD < 504
         && are_zeros(&bytes[HEAD..])
 }
 
 // Whether a delta of this kind and home may stand after the last of these.
+#[tactic(auto, unfolding(volume_model::specs::Log::LogRecord::may_precede))]
 fn may_stand_after_last(before: &[Delta], kind: DeltaKind, home: u64) -> bool
     ensures { result ≡ may_stand_after (last_of before.now) kind home }
 {
     match before.last() {
         None => true,
-        Some(d) => may_precede(d, kind, home),
+        Some(d) => may_precede(head_of(d), kind, home),
     }
 }
 
@@ -164,7 +193,7 @@ fn read_front(
     let len = get_u32(bytes, 8);
     let record_type = get_u32(bytes, 12);
     if record_type == COMMIT {
-        if is_commit(tid, before, bytes) {
+        if is_commit(u64::from(tid), before.len(), bytes) {
             return Ok(Front::Commit);
         }
         return Ok(Front::Wrong);
@@ -210,8 +239,3 @@ pub fn read_run(alloc: Global, g: &Geometry, tid: u32, payload: &[u8]) -> Result
         }
     }
 }
-
-/// The deltas of a run that is whole meet the table and the order of the log.
-pub fn whole_run_is_loggable()
-    ensures { (g : Geometry) (tid : ℕ) (payload : List ℕ) (deltas : List Delta) → run_of g tid payload ≡ Whole deltas → AreLoggable g deltas }
-{}

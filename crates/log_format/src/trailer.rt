@@ -1,3 +1,4 @@
+//! The trailer of a log sector.
 ghost use Rattle.std.specs.Prelude.{◌≡◌, ◌++◌, length, take};
 ghost use Rattle.volume_model.specs.Log.{trailer_of, trailer_bytes};
 

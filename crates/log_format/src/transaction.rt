@@ -1,11 +1,10 @@
-ghost use Rattle.std.specs.Prelude.{◌≡◌, ℕ, List, true, All, ◌+◌, ◌*◌, ◌/◌, ◌%◌, ◌-◌, ◌≤◌, ◌<◌, ◌^◌, ◌++◌, length, take, drop, replicate};
+//! A transaction written to log sectors.
+ghost use Rattle.std.specs.Prelude.{◌≡◌, ◌+◌, ◌*◌, ◌/◌, ◌%◌, ◌-◌, ◌≤◌, ◌<◌, ◌^◌, ◌++◌, length, take, drop, replicate};
 ghost use Rattle.std.specs.List.{flat_map};
 ghost use Rattle.lufs_base.specs.Fields.{put_at};
 ghost use Rattle.lufs_base.specs.Layout.{IsGeometry};
 ghost use Rattle.lufs_base.specs.declared.geometry.Geometry.{Geometry};
-ghost use Rattle.lufs_base.specs.declared.delta.Delta.{Delta};
-ghost use Rattle.volume_model.specs.Format.{sectors_in};
-ghost use Rattle.volume_model.specs.Log.{belongs_to, payload_of, Whole, run_of, trailer_bytes, AreLoggable, tx_sectors, record_head, delta_record, records_of, carrying, tx_row, tx_bytes};
+ghost use Rattle.volume_model.specs.Log.{trailer_bytes, AreLoggable, tx_sectors, record_head, delta_record, records_of, carrying, tx_bytes};
 
 use crate::kinds::{COMMIT, HEAD, type_of};
 use crate::{Trailer, write_trailer};
@@ -97,16 +96,3 @@ pub fn write_tx(deltas: &DeltaList, tid: u32, ident: u32, out: &mut [u8])
     put_records(out, deltas.as_slice(), tid);
     make_sectors(out, &Trailer { tid, ident });
 }
-
-/// A transaction is read back from the sectors that it is written as: they have its trailer, and their
-/// payload is a run that is whole, with the same deltas.
-pub fn tx_read_back()
-    ensures run { (g : Geometry) (deltas : List Delta) (tid ident : ℕ) → IsGeometry g → AreLoggable g deltas → tid < 2 ^ 32
-        → run_of g tid (payload_of (sectors_in (tx_bytes deltas tid ident))) ≡ Whole deltas }
-    ensures trailers { (g : Geometry) (deltas : List Delta) (tid ident : ℕ) → AreLoggable g deltas → tid < 2 ^ 32 → ident < 2 ^ 32
-        → All (λ s. belongs_to ident tid s ≡ true) (sectors_in (tx_bytes deltas tid ident)) }
-    ensures row { (g : Geometry) (deltas : List Delta) (tid ident : ℕ) → AreLoggable g deltas
-        → sectors_in (tx_bytes deltas tid ident) ≡ tx_row deltas tid ident }
-    ensures size { (g : Geometry) (deltas : List Delta) (tid ident : ℕ) → AreLoggable g deltas
-        → length (tx_bytes deltas tid ident) ≡ 512 * tx_sectors deltas }
-{}

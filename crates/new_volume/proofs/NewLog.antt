@@ -12,7 +12,7 @@ use Rattle.lufs_base.specs.declared.geometry.Region.TheVariants.{Log}
 use Rattle.volume_model.specs.Format.{Image, sector, block}
 use Rattle.volume_model.specs.Log.{header_of, header_bytes, front_of, run_after, run_of, WithHeader, Listed, belongs_to, row_of, payload_of, transactions_at, transactions_from, ring_from, log_after, log_with, log_of}
 use Rattle.volume_model.specs.MkfsImage.{made_header, block_with, IsMkfsImage}
-use Rattle.log_format.proofs.HeaderBytes.{header_reads}
+use Rattle.log_laws.proofs.HeaderBytes.{header_reads}
 use Rattle.volume_model.specs.Sound.{HasNoLaterIdent}
 use Rattle.new_volume.proofs.BlockSectors.{sector_in_block, sector_of_zeros}
 use Rattle.new_volume.proofs.MadeBlocks.{made_there}

@@ -1,7 +1,7 @@
 use Rattle.std.proofs.Common.{ap, arith}
 use Rattle.std.proofs.lemmas.List.{take_rest}
 use Rattle.lufs_base.specs.Fields.{are_zeros}
-use Rattle.log_format.proofs.HeaderTests.{no_header, a_header}
+use Rattle.log_laws.proofs.HeaderTests.{no_header, a_header}
 use Rattle.log_format.proofs.header.read_header.Goals as goal
 
 pub returns-then-get_u32-ne-MAGIC-clause-value : goal.returns-then-get_u32-ne-MAGIC-clause-value

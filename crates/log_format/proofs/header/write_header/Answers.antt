@@ -1,4 +1,4 @@
-use Rattle.log_format.proofs.HeaderBytes.{header_written}
+use Rattle.log_laws.proofs.HeaderBytes.{header_written}
 use Rattle.log_format.proofs.header.write_header.Goals as goal
 
 pub returns : goal.returns

@@ -1,5 +1,5 @@
 use Rattle.std.proofs.Common.{rules}
-use Rattle.log_format.proofs.WholeRun.{whole_loggable}
+use Rattle.log_laws.proofs.WholeRun.{whole_loggable}
 use Rattle.log_format.proofs.tests.write_again.Goals as goal
 
 pub write_tx-requires-clause-deltas : goal.write_tx-requires-clause-deltas

@@ -2,7 +2,8 @@ use Rattle.std.proofs.Common.{◌≡◌, ℕ, ◌+◌, ◌-◌, ◌++◌, length
 use Rattle.lufs_base.specs.Fields.{put_at}
 use Rattle.volume_model.specs.Log.{commit_record, records_of}
 use Rattle.log_format.proofs.Placed.{clear_rest}
-use Rattle.log_format.proofs.TxRecords.{commit_behind, length-records_of}
+use Rattle.log_laws.proofs.TxSize.{length-records_of}
+use Rattle.log_format.proofs.TxRecords.{commit_behind}
 use Rattle.log_format.proofs.transaction.put_records.Goals as goal
 
 pub returns : goal.returns

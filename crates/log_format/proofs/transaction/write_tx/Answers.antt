@@ -2,7 +2,7 @@ use Rattle.std.proofs.Common.{◌≡◌, ◌<◌, ◌^◌, ◌++◌, ◌-◌, �
 use Rattle.lufs_base.specs.declared.delta.Delta.{Delta}
 use Rattle.volume_model.specs.declared.log.Trailer.{Trailer}
 use Rattle.volume_model.specs.Log.{records_of, carrying}
-use Rattle.log_format.proofs.TxSize.{few_deltas, records_size, payload_filled}
+use Rattle.log_laws.proofs.TxSize.{few_deltas, records_size, payload_filled}
 use Rattle.log_format.proofs.transaction.write_tx.Goals as goal
 
 pub put_records-requires-clause-count : goal.put_records-requires-clause-count

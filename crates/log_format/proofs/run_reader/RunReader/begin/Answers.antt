@@ -1,0 +1,7 @@
+use Rattle.std.proofs.Common.{None, false, refl}
+use Rattle.log_format.proofs.ReaderSteps.{nothing_read}
+use Rattle.log_format.proofs.run_reader.RunReader.begin.Goals as goal
+
+pub returns-clause-read : goal.returns-clause-read
+returns-clause-read c =
+    λ g. nothing_read g (record { tid = c.args.tid; tally = record { deltas = 0; bytes = 0; last = None }; kept = c.clear.new.self; committed = false }) c.clear.ensures.items refl refl refl refl

@@ -1,0 +1,4 @@
+pub mod TxsInRing
+pub mod StaleSectors
+pub mod LogRing
+pub mod LogOnImage
