@@ -3,3 +3,7 @@ pub mod Listing
 pub mod RingTurn
 pub mod LogTold
 pub mod GeometryTold
+pub mod Rows
+pub mod RowsTold
+pub mod TxTold
+pub mod SummariesTold

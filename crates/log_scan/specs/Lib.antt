@@ -1,2 +1,4 @@
 pub mod Answers
 pub mod Ring
+pub mod Pieces
+pub mod Summaries

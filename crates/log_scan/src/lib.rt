@@ -4,11 +4,16 @@
 
 mod geometry;
 mod log;
+mod ring;
 mod runs;
+mod summaries;
+mod summary;
 
 pub use geometry::{GeometryError, read_geometry};
 pub use log::{ScanError, scan};
 pub use log_format::{Header, Tx, TxList};
+pub use summaries::list;
+pub use summary::{TxSummaries, TxSummary};
 
 #[cfg(test)]
 mod tests;

@@ -1,13 +1,16 @@
-ghost use Rattle.std.specs.Prelude.{◌≡◌, ◌<◌, ◌≤◌, ◌+◌, ◌*◌, ◌%◌, suc, length, drop, IfOk, OnOk, IfSome, IsErrOf};
-ghost use Rattle.lufs_base.specs.Layout.{IsGeometry, ring_of, ring_place, blocks_of};
-ghost use Rattle.volume_model.specs.Format.{sector, sectors_in};
-ghost use Rattle.volume_model.specs.Log.{transactions_from, ring_from, log_of};
-ghost use Rattle.sector_disk.specs.Disk.{IsRead, IsUnwritten, CountsFailure, FailsJustAt};
+//! Reads the log with its deltas: the header, and then one transaction after the other.
+ghost use Rattle.std.specs.Prelude.{◌≡◌, ◌<◌, ◌≤◌, ◌+◌, ◌*◌, ◌%◌, ◌^◌, drop, IfOk, IfSome, IsErrOf};
+ghost use Rattle.lufs_base.specs.Layout.{IsGeometry, ring_of, blocks_of};
+ghost use Rattle.volume_model.specs.Log.{log_of, log_after};
+ghost use Rattle.volume_model.specs.Format.{sector};
+ghost use Rattle.sector_disk.specs.Disk.{IsUnwritten, FailsJustAt};
 ghost use Rattle.log_scan.specs.declared.log.ScanError.TheVariants.{Disk, BadHeader, Mem};
-ghost use Rattle.log_scan.specs.Ring.{transactions_of};
-ghost use Rattle.log_scan.specs.Answers.{IsTx, IsListing, IsScan};
+ghost use Rattle.log_scan.specs.Ring.{ring_in, transactions_of};
+ghost use Rattle.log_scan.specs.Pieces.{Holds};
+ghost use Rattle.log_scan.specs.Answers.{IsTx, IsListing, IsScan, IsHeaderAnswer};
 
-use crate::runs::{join_payloads, row_len};
+use crate::ring::Piece;
+use crate::runs::read_row;
 use crate::{Header, Tx, TxList};
 use log_format::{Run, RunError, read_header, read_run};
 use lufs_base::{DiskFault, Geometry, SECTOR};
@@ -59,40 +62,47 @@ impl From<AllocError> for ScanError {
     }
 }
 
-// The place in the ring of the sector `at` after the head.
-fn place_of(g: &Geometry, header: &Header, at: usize) -> u32
+/// The place in the ring of the sector `at` after the head.
+pub(crate) fn place_of(g: &Geometry, header: &Header, at: u32) -> u32
     requires geometry { IsGeometry g.now }
     requires head { header.now.head < ring_of g.now }
     requires at { at ≤ ring_of g.now }
     ensures { result ≡ (header.now.head + at) % ring_of g.now }
 {
-    (header.head + at as u32) % g.ring()
+    (header.head + at) % g.ring()
 }
 
-// The transaction that stands from sector `at` after the head on, unless the log ends there. The ring
-// begins at its head.
-fn read_tx(
+// The transaction that stands from sector `at` after the head on, unless the log ends there.
+fn read_tx<D: Disk>(
     alloc: Global,
+    disk: &mut D,
+    piece: &mut Piece,
     g: &Geometry,
     header: &Header,
-    ring: &[u8],
-    tid: u32,
-    at: usize,
+    tid: u64,
+    at: u32,
 ) -> Result<Option<Tx>, ScanError>
     requires geometry { IsGeometry g.now }
     requires head { header.now.head < ring_of g.now }
-    requires ring { length ring.now ≡ 512 * ring_of g.now }
+    requires disk { 8 * blocks_of g.now ≤ (D.told disk.old).sectors }
     requires at { at ≤ ring_of g.now }
-    ensures value { IsTx g.now header.now tid at (drop at (sectors_in ring.now)) result }
-    ensures inside { IfOk result (λ found. IfSome found (λ tx. (0 < tx.sectors) × (at + tx.sectors ≤ ring_of g.now))) }
+    requires held { Holds g.now header.now.head (D.told disk.old).present piece.old }
+    ensures value { IfSome (D.told disk.old).present (λ image. IsTx g.now header.now tid at (drop at (ring_in g.now header.now.head image)) result) }
+    ensures inside { IfOk result (λ found. IfSome found (λ tx. (0 < tx.sectors) × (at + tx.sectors ≤ ring_of g.now) × (tid < 2 ^ 32))) }
+    ensures held { Holds g.now header.now.head (D.told disk.old).present piece.new }
+    ensures unwritten { IsUnwritten (D.told disk.old) (D.told disk.new) }
+    ensures failure { FailsJustAt (IsErrOf result ScanError.Disk) (D.told disk.old) (D.told disk.new) }
 {
-    let sectors = row_len(ring, at, header.epoch, tid);
-    let payload = join_payloads(alloc, ring, at, sectors)?;
+    let (sectors, payload) = read_row(alloc, disk, piece, g, header, tid, at)?;
+    if sectors == 0 {
+        return Ok(None);
+    }
+    let tid = tid as u32;
     match read_run(alloc, g, tid, &payload) {
         Ok(Run::Whole(deltas)) => Ok(Some(Tx {
             tid,
             first: place_of(g, header, at),
-            sectors: sectors as u32,
+            sectors,
             deltas,
         })),
         Ok(Run::Short) => Ok(None),
@@ -104,93 +114,53 @@ fn read_tx(
     }
 }
 
-// The transactions of the log, from those at the front of the ring on.
-fn transactions(
-    alloc: Global,
-    g: &Geometry,
-    header: &Header,
-    ring: &[u8],
-) -> Result<TxList, ScanError>
-    requires geometry { IsGeometry g.now }
-    requires head { header.now.head < ring_of g.now }
-    requires ring { length ring.now ≡ 512 * ring_of g.now }
-    ensures value { IsListing (transactions_from g.now (ring_of g.now) header.now (suc (ring_of g.now)) header.now.tid 0 (sectors_in ring.now)) result }
-    ensures no_fault { IsErrOf result ScanError.Disk → ⊥ }
-{
-    let mut txs = TxList::new(alloc);
-    let mut at = 0;
-    let mut tid = header.tid;
-    loop {
-        let Some(tx) = read_tx(alloc, g, header, ring, tid, at)? else {
-            return Ok(txs);
-        };
-        at += tx.sectors as usize;
-        txs.push(tx)?;
-        // No sector has a number above the last one.
-        let Some(next) = tid.checked_add(1) else {
-            return Ok(txs);
-        };
-        tid = next;
-    }
-}
-
-// Reads these sectors, if there are any.
-fn read_any<D: Disk>(disk: &mut D, first: u64, out: &mut [u8]) -> Result<(), DiskFault>
-    requires whole { length out.old % 512 ≡ 0 }
-    requires inside { 512 * first + length out.old ≤ 512 * (D.told disk.old).sectors }
-    ensures bytes { OnOk result (IsRead first out.new (D.told disk.old)) }
-    ensures unwritten { IsUnwritten (D.told disk.old) (D.told disk.new) }
-    ensures failure { CountsFailure result (D.told disk.old) (D.told disk.new) }
-{
-    if out.is_empty() {
-        return Ok(());
-    }
-    disk.read(first, out)
-}
-
-// Reads the ring from its head on and once round, each sector once.
-fn read_ring<D: Disk>(
-    disk: &mut D,
-    geometry: &Geometry,
-    head: u32,
-    out: &mut [u8],
-) -> Result<(), DiskFault>
-    requires geometry { IsGeometry geometry.now }
-    requires head { head < ring_of geometry.now }
-    requires disk { 8 * blocks_of geometry.now ≤ (D.told disk.old).sectors }
-    requires size { length out.old ≡ 512 * ring_of geometry.now }
-    ensures ring { IfSome ((D.told disk.old).present) (λ image. OnOk result (
-        sectors_in out.new ≡ ring_from (ring_of geometry.now) head (λ place. sector image (ring_place geometry.now place)))) }
-    ensures unwritten { IsUnwritten (D.told disk.old) (D.told disk.new) }
-    ensures failure { CountsFailure result (D.told disk.old) (D.told disk.new) }
-{
-    let turn = SECTOR * (geometry.ring() - head) as usize;
-    read_any(disk, geometry.ring_place(head), &mut out[..turn])?;
-    read_any(disk, geometry.ring_place(0), &mut out[turn..])
-}
-
-// Reads the ring into these bytes, and the transactions from there.
+// The transactions of the log, from those at the front of the ring on. A number above those of 32 bits, which no
+// sector names, ends it.
 fn read_transactions<D: Disk>(
     alloc: Global,
     disk: &mut D,
-    geometry: &Geometry,
+    piece: &mut Piece,
+    g: &Geometry,
     header: &Header,
-    ring: &mut [u8],
 ) -> Result<TxList, ScanError>
-    requires geometry { IsGeometry geometry.now }
-    requires head { header.now.head < ring_of geometry.now }
-    requires disk { 8 * blocks_of geometry.now ≤ (D.told disk.old).sectors }
-    requires ring { length ring.old ≡ 512 * ring_of geometry.now }
-    ensures log { IfSome ((D.told disk.old).present) (λ image. IsListing (transactions_of geometry.now header.now image) result) }
+    requires geometry { IsGeometry g.now }
+    requires head { header.now.head < ring_of g.now }
+    requires disk { 8 * blocks_of g.now ≤ (D.told disk.old).sectors }
+    requires held { Holds g.now header.now.head (D.told disk.old).present piece.old }
+    ensures log { IfSome (D.told disk.old).present (λ image. IsListing (transactions_of g.now header.now image) result) }
     ensures unwritten { IsUnwritten (D.told disk.old) (D.told disk.new) }
     ensures failure { FailsJustAt (IsErrOf result ScanError.Disk) (D.told disk.old) (D.told disk.new) }
 {
-    read_ring(disk, geometry, header.head, ring)?;
-    transactions(alloc, geometry, header, ring)
+    let mut txs = TxList::new(alloc);
+    let mut at = 0;
+    let mut tid = u64::from(header.tid);
+    loop {
+        let Some(tx) = read_tx(alloc, disk, piece, g, header, tid, at)? else {
+            return Ok(txs);
+        };
+        at += tx.sectors;
+        tid += 1;
+        txs.push(tx)?;
+    }
 }
 
-/// Reads the log of a volume, each sector of the ring once. It fails where a read failed, there was no
-/// memory, or the log is none or bad, and says which.
+/// The header of the log of a volume.
+pub(crate) fn read_log_header<D: Disk>(disk: &mut D, g: &Geometry) -> Result<Header, ScanError>
+    requires geometry { IsGeometry g.now }
+    requires disk { 8 * blocks_of g.now ≤ (D.told disk.old).sectors }
+    ensures value { IfSome (D.told disk.old).present (λ image. IsHeaderAnswer g.now image result) }
+    ensures head { IfOk result (λ h. h.head < ring_of g.now) }
+    ensures unwritten { IsUnwritten (D.told disk.old) (D.told disk.new) }
+    ensures failure { FailsJustAt (IsErrOf result ScanError.Disk) (D.told disk.old) (D.told disk.new) }
+{
+    let mut sector = [0u8; SECTOR];
+    disk.read(g.header_sector(), &mut sector)?;
+    Ok(read_header(g, &sector)?)
+}
+
+/// Reads the log of a volume, each sector of the ring at most once, and of the ring no more than to the end of the
+/// piece in which the log ends. It fails where a read failed, there was no memory, or the log is none or bad, and
+/// says which.
 pub fn scan<D: Disk>(
     alloc: Global,
     disk: &mut D,
@@ -202,10 +172,8 @@ pub fn scan<D: Disk>(
     ensures unwritten { IsUnwritten (D.told disk.old) (D.told disk.new) }
     ensures failure { FailsJustAt (IsErrOf result ScanError.Disk) (D.told disk.old) (D.told disk.new) }
 {
-    let mut sector = [0u8; SECTOR];
-    disk.read(g.header_sector(), &mut sector)?;
-    let header = read_header(g, &sector)?;
-    let mut ring = vec![in alloc; 0u8; SECTOR * g.ring() as usize]?;
-    let txs = read_transactions(alloc, disk, g, &header, &mut ring)?;
+    let header = read_log_header(disk, g)?;
+    let mut piece = Piece::new(alloc)?;
+    let txs = read_transactions(alloc, disk, &mut piece, g, &header)?;
     Ok((header, txs))
 }

@@ -1,60 +1,46 @@
-ghost use Rattle.std.specs.Prelude.{◌≡◌, ◌+◌, ◌*◌, ◌≤◌, length, take, drop, IfOk};
-ghost use Rattle.volume_model.specs.Format.{sector, sectors_of, sectors_in};
-ghost use Rattle.volume_model.specs.Log.{belongs_to, row_of, payload_of};
+//! What the sectors of one transaction carry, read from the ring.
+ghost use Rattle.std.specs.Prelude.{◌≡◌, ◌<◌, ◌≤◌, ◌+◌, ◌*◌, ◌^◌, length, drop, IfOk, IfErr, IfSome, IsErrOf};
+ghost use Rattle.lufs_base.specs.Layout.{IsGeometry, ring_of, blocks_of};
+ghost use Rattle.sector_disk.specs.Disk.{IsUnwritten, FailsJustAt};
+ghost use Rattle.log_scan.specs.Ring.{ring_in};
+ghost use Rattle.log_scan.specs.Pieces.{Holds};
+ghost use Rattle.log_scan.specs.Answers.{IsRow, IsStop};
 
-use log_format::read_trailer;
-use lufs_base::{Mem, PAYLOAD, SECTOR};
+use crate::ring::Piece;
+use crate::{Header, ScanError};
+use lufs_base::Geometry;
+use sector_disk::Disk;
 use std::alloc::Global;
 
-// Sector `i` of the ring.
-fn sector(ring: &[u8], i: usize) -> &[u8]
-    requires { 512 * i + 512 ≤ length ring.now }
-    ensures value { result.now ≡ sector ring.now i }
-    ensures size { length result.now ≡ 512 }
+/// How many sectors of the ring, from sector `at` on, belong to this transaction, and what they carry.
+pub(crate) fn read_row<D: Disk>(
+    alloc: Global,
+    disk: &mut D,
+    piece: &mut Piece,
+    g: &Geometry,
+    header: &Header,
+    tid: u64,
+    at: u32,
+) -> Result<(u32, Vec<u8>), ScanError>
+    requires geometry { IsGeometry g.now }
+    requires head { header.now.head < ring_of g.now }
+    requires disk { 8 * blocks_of g.now ≤ (D.told disk.old).sectors }
+    requires at { at ≤ ring_of g.now }
+    requires held { Holds g.now header.now.head (D.told disk.old).present piece.old }
+    ensures row { IfSome (D.told disk.old).present (λ image. IfOk result (λ row.
+        IsRow header.now.epoch tid (drop at (ring_in g.now header.now.head image)) row.0 row.1.items)) }
+    ensures stop { IfErr result IsStop }
+    ensures inside { IfOk result (λ row. at + row.0 ≤ ring_of g.now) }
+    ensures number { IfOk result (λ row. 0 < row.0 → tid < 2 ^ 32) }
+    ensures held { Holds g.now header.now.head (D.told disk.old).present piece.new }
+    ensures unwritten { IsUnwritten (D.told disk.old) (D.told disk.new) }
+    ensures failure { FailsJustAt (IsErrOf result ScanError.Disk) (D.told disk.old) (D.told disk.new) }
 {
-    &ring[SECTOR * i..SECTOR * i + SECTOR]
-}
-
-// What sector `i` of the ring carries, without its trailer.
-fn carried_by(ring: &[u8], i: usize) -> &[u8]
-    requires { 512 * i + 512 ≤ length ring.now }
-    ensures { result.now ≡ take 504 (sector ring.now i) }
-{
-    &ring[SECTOR * i..SECTOR * i + PAYLOAD]
-}
-
-// Whether the sector's trailer names this transaction of this epoch.
-fn belongs_to(sector: &[u8], epoch: u32, tid: u32) -> bool
-    requires { length sector.now ≡ 512 }
-    ensures { result ≡ belongs_to epoch tid sector.now }
-{
-    let trailer = read_trailer(sector);
-    trailer.tid == tid && trailer.ident == epoch
-}
-
-/// How many sectors of the ring, from sector `at` on, belong to this transaction of this epoch.
-pub fn row_len(ring: &[u8], at: usize, epoch: u32, tid: u32) -> usize
-    requires { at ≤ sectors_of ring.now }
-    ensures value { result ≡ length (row_of epoch tid (drop at (sectors_in ring.now))) }
-    ensures inside { at + result ≤ sectors_of ring.now }
-{
-    let end = ring.len() / SECTOR;
-    for i in at..end {
-        if !belongs_to(sector(ring, i), epoch, tid) {
-            return i - at;
-        }
+    let mut payload = Vec::new(alloc);
+    let mut i = at;
+    while piece.goes_on(disk, g, header, tid, i)? {
+        payload.extend_from_slice(piece.carried(i))?;
+        i += 1;
     }
-    end - at
-}
-
-/// What `count` sectors of the ring, from sector `at` on, carry, without their trailers.
-pub fn join_payloads(alloc: Global, ring: &[u8], at: usize, count: usize) -> Result<Vec<u8>, Mem>
-    requires { at + count ≤ sectors_of ring.now }
-    ensures { IfOk result (λ v. v.items ≡ payload_of (take count (drop at (sectors_in ring.now)))) }
-{
-    let mut payload = Vec::with_capacity(alloc, PAYLOAD * count)?;
-    for i in at..at + count {
-        payload.extend_from_slice(carried_by(ring, i))?;
-    }
-    Ok(payload)
+    Ok((i - at, payload))
 }

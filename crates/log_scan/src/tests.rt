@@ -1,4 +1,4 @@
-use crate::{GeometryError, ScanError, read_geometry, scan};
+use crate::{GeometryError, ScanError, list, read_geometry, scan};
 use lufs_base::{Geometry, Mem, put_u32};
 use sector_disk::{Disk, Fail, MemDisk};
 use std::alloc::Global;
@@ -87,7 +87,24 @@ fn write_log(image: &mut [u8], head: u32, words: &[Word], change: Word) {
     put(image, 512 * (25 + place as usize) + at as usize, word);
 }
 
-// What a scan finds of that log, where these reads fail.
+// A disk with that log, whose named calls fail.
+fn disk_with(
+    alloc: Global,
+    head: u32,
+    words: &[Word],
+    change: Word,
+    fails: &[Fail],
+) -> Result<MemDisk, ScanError> {
+    let mut image = vec![in alloc; 0u8; 792 * 512]?;
+    write_log(&mut image, head, words, change);
+    let fails = Vec::from_slice(alloc, fails)?;
+    if image.len() % 512 != 0 {
+        return Err(ScanError::Mem);
+    }
+    Ok(MemDisk::new(image, fails))
+}
+
+// What a scan finds of that log, where these calls fail.
 fn find(
     alloc: Global,
     head: u32,
@@ -95,13 +112,7 @@ fn find(
     change: Word,
     fails: &[Fail],
 ) -> Result<Option<Found>, ScanError> {
-    let mut image = vec![in alloc; 0u8; 792 * 512]?;
-    write_log(&mut image, head, words, change);
-    let fails = Vec::from_slice(alloc, fails)?;
-    if image.len() % 512 != 0 {
-        return Err(ScanError::Mem);
-    }
-    let mut disk = MemDisk::new(image, fails);
+    let mut disk = disk_with(alloc, head, words, change, fails)?;
     if disk.sectors() < 8 * u64::from(SMALLEST.total()) {
         return Err(ScanError::Mem);
     }
@@ -112,6 +123,29 @@ fn find(
             first: tx.first,
             sectors: tx.sectors,
             deltas: tx.deltas.len(),
+        }),
+    )
+}
+
+// What a list finds of it.
+fn find_listed(
+    alloc: Global,
+    head: u32,
+    words: &[Word],
+    change: Word,
+    fails: &[Fail],
+) -> Result<Option<Found>, ScanError> {
+    let mut disk = disk_with(alloc, head, words, change, fails)?;
+    if disk.sectors() < 8 * u64::from(SMALLEST.total()) {
+        return Err(ScanError::Mem);
+    }
+    let (_, txs) = list(alloc, &mut disk, &SMALLEST)?;
+    Ok(
+        txs.as_slice().first().map(|tx| Found {
+            tid: tx.tid,
+            first: tx.first,
+            sectors: tx.sectors,
+            deltas: tx.deltas as usize,
         }),
     )
 }
@@ -135,6 +169,11 @@ fn logs_of_one_sector(rt: HostRuntime) {
         ("byte after the commit", (0, 160, 1), Err(bad)),
     ] {
         assert_eq!(rt; find(rt.alloc(), 0, &ROOT, change, &[]), want, "{what}");
+        assert_eq!(rt;
+            find_listed(rt.alloc(), 0, &ROOT, change, &[]),
+            want,
+            "{what}, listed"
+        );
     }
 }
 
@@ -179,23 +218,46 @@ fn logs_that_wrap(rt: HostRuntime) {
             want,
             "{what}"
         );
+        assert_eq!(rt;
+            find_listed(rt.alloc(), 254, &WRAPPED, change, &fails),
+            want,
+            "{what}, listed"
+        );
     }
 }
 
 #[test]
-fn reads_of_a_scan(rt: HostRuntime) {
+fn reads_of_a_log(rt: HostRuntime) {
     let disk = Err(ScanError::Disk);
-    // One read for the header and one for each end of the ring, and no other.
-    for (what, head, fail, want) in [
-        ("one end", 0, Fail::Read(2), disk),
-        ("no more than that", 0, Fail::Read(3), Ok(None)),
-        ("both ends", 100, Fail::Read(3), disk),
-        ("no more than those", 100, Fail::Read(4), Ok(None)),
+    let found = Some(Found {
+        tid: 1,
+        first: 254,
+        sectors: 3,
+        deltas: 2,
+    });
+    // One read for the header and one for a piece, and where the log goes on past the ring's last place one more.
+    for (what, head, words, fail, want) in [
+        ("a piece", 0, &[][..], Fail::Read(2), disk),
+        ("no more than that", 0, &[], Fail::Read(3), Ok(None)),
+        ("an empty log inside", 100, &[], Fail::Read(3), Ok(None)),
+        ("both ends", 254, &WRAPPED, Fail::Read(3), disk),
+        (
+            "no more than those",
+            254,
+            &WRAPPED,
+            Fail::Read(4),
+            Ok(found),
+        ),
     ] {
         assert_eq!(rt;
-            find(rt.alloc(), head, &[], (0, 0, 0), &[fail]),
+            find(rt.alloc(), head, words, (0, 0, 0), &[fail]),
             want,
             "{what}"
+        );
+        assert_eq!(rt;
+            find_listed(rt.alloc(), head, words, (0, 0, 0), &[fail]),
+            want,
+            "{what}, listed"
         );
     }
 }
@@ -279,7 +341,25 @@ fn volume(alloc: Global, numbers: [u32; 4], filling: &Filling) -> Result<MemDisk
     Ok(MemDisk::new(image, Vec::new(alloc)))
 }
 
-// How many transactions a scan finds of that volume, and the last of them.
+// How many transactions a list finds of that volume, and the last of them.
+fn last_listed(
+    alloc: Global,
+    numbers: [u32; 4],
+    filling: &Filling,
+) -> Result<(usize, Option<Found>), TestFail> {
+    let mut disk = volume(alloc, numbers, filling)?;
+    let g = read_geometry(&mut disk).map_err(|_| "no volume")?;
+    let (_, txs) = list(alloc, &mut disk, &g).map_err(|_| "no log")?;
+    let last = txs.as_slice().last().map(|tx| Found {
+        tid: tx.tid,
+        first: tx.first,
+        sectors: tx.sectors,
+        deltas: tx.deltas as usize,
+    });
+    Ok((txs.len(), last))
+}
+
+// How many transactions a scan finds of it, and the last of them.
 fn last_of(
     alloc: Global,
     numbers: [u32; 4],
@@ -355,6 +435,11 @@ fn largest_logs(rt: HostRuntime) -> Result<(), TestFail> {
             last_of(rt.alloc(), numbers, &filling)?,
             (filling.txs as usize, Some(last)),
             "{what}"
+        );
+        assert_eq!(rt;
+            last_listed(rt.alloc(), numbers, &filling)?,
+            (filling.txs as usize, Some(last)),
+            "{what}, listed"
         );
     }
     Ok(())

@@ -2,6 +2,7 @@ pub mod Numbers
 pub mod Words
 pub mod Ending
 pub mod Borrowed
+pub mod Listing
 pub mod Scan
 pub mod Check
 pub mod Mkfs

@@ -8,8 +8,8 @@ mod listing;
 
 use crate::ending::Ending;
 use host_io::Host;
-use listing::scan_text;
-use log_scan::{GeometryError, ScanError, read_geometry, scan};
+use listing::listing_text;
+use log_scan::{GeometryError, ScanError, list, read_geometry};
 use sector_disk::Disk;
 use std::alloc::Global;
 
@@ -79,8 +79,8 @@ fn scan_volume<D: Disk>(alloc: Global, disk: &mut D) -> Result<ScanEnding, Stop>
         Err(GeometryError::NotVolume) => return Ok(ScanEnding::NotVolume),
         Err(GeometryError::Disk) => return Err(Stop::DiskFault),
     };
-    match scan(alloc, disk, &g) {
-        Ok((header, txs)) => match scan_text(alloc, &g, &header, &txs) {
+    match list(alloc, disk, &g) {
+        Ok((header, txs)) => match listing_text(alloc, &g, &header, &txs) {
             Ok(text) => Ok(ScanEnding::Listed(text)),
             Err(_) => Err(Stop::NoMemory),
         },

@@ -1,28 +1,14 @@
-//! The text that `scan` prints of a log.
+//! The text of a listing, which has a line for each transaction.
 ghost use Rattle.std.specs.Prelude.{◌≡◌, ◌≤◌, ◌*◌, ◌^◌, ◌<◌, length, string_bytes, sum_by, IfOk, OnOk, ◌++◌};
-ghost use Rattle.volume_model.specs.Texts.{scan_text, header_line, tx_line, summary_line};
-ghost use Rattle.volume_model.specs.Log.{logged_len, delta_bytes};
+ghost use Rattle.volume_model.specs.Texts.{header_line};
 ghost use Rattle.lufs_base.specs.Layout.{IsGeometry};
+ghost use Rattle.lufs_top.specs.Listing.{summed_line, total_line, listing_text};
 
-use log_scan::{Header, Tx, TxList};
-use lufs_base::{Delta, Geometry, Mem};
+use log_scan::{Header, TxSummaries, TxSummary};
+use lufs_base::{Geometry, Mem};
 use std::alloc::Global;
 
-// The bytes of the deltas in the log, with the 16 bytes at the head of each.
-fn delta_bytes(deltas: &[Delta]) -> u128
-    ensures { result ≡ delta_bytes deltas.now }
-{
-    let mut bytes = 0;
-    for delta in deltas {
-        bytes += 16;
-        if delta.kind.has_bytes() {
-            bytes += u128::from(delta.len);
-        }
-    }
-    bytes
-}
-
-fn total_sectors(txs: &[Tx]) -> u128
+fn total_sectors(txs: &[TxSummary]) -> u128
     ensures { result ≡ sum_by (λ tx. tx.sectors) txs.now }
 {
     let mut sectors = 0;
@@ -32,13 +18,13 @@ fn total_sectors(txs: &[Tx]) -> u128
     sectors
 }
 
-fn push_tx(text: &mut String, tx: &Tx) -> Result<(), Mem>
-    ensures { OnOk result (string_bytes text.new ≡ string_bytes text.old ++ tx_line tx.now) }
+fn push_tx(text: &mut String, tx: &TxSummary) -> Result<(), Mem>
+    ensures { OnOk result (string_bytes text.new ≡ string_bytes text.old ++ summed_line tx.now) }
 {
     let tid = tx.tid;
     let sectors = tx.sectors;
-    let deltas = tx.deltas.len();
-    let bytes = delta_bytes(tx.deltas.as_slice());
+    let deltas = tx.deltas;
+    let bytes = tx.bytes;
     write!(
         text,
         "tx {tid} sectors {sectors} deltas {deltas} bytes {bytes}\n"
@@ -47,15 +33,15 @@ fn push_tx(text: &mut String, tx: &Tx) -> Result<(), Mem>
 }
 
 /// What `scan` prints of a log (`docs/FORMAT.md`, "What scan prints").
-#[tactic(auto, unfolding(volume_model::specs::Texts::ScanText::scan_text))]
-pub(crate) fn scan_text(
+#[tactic(auto, unfolding(crate::specs::Listing::listing_text))]
+pub(crate) fn listing_text(
     alloc: Global,
     g: &Geometry,
     header: &Header,
-    txs: &TxList,
+    txs: &TxSummaries,
 ) -> Result<String, Mem>
     requires { IsGeometry g.now }
-    ensures { IfOk result (λ text. string_bytes text ≡ scan_text g.now header.now txs.now) }
+    ensures { IfOk result (λ text. string_bytes text ≡ listing_text g.now header.now txs.now) }
 {
     let epoch = header.epoch;
     let head = header.head;

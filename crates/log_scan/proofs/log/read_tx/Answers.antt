@@ -1,34 +1,42 @@
-use Rattle.std.proofs.Common.{ℕ, ◌+◌, drop, sym, ap, ◌∙◌, arith}
-use Rattle.lufs_base.specs.Layout.{ring_of}
-use Rattle.volume_model.specs.Log.{Whole, Short, Bad, BadRun, with_tx, transactions_from}
-use Rattle.volume_model.specs.Format.{sectors_in}
-use Rattle.log_scan.proofs.Listing.{by_run, whole_has_sectors}
+use Rattle.std.proofs.Common.{ℕ, List, Option, Result, Err, IfSome, sym, ap, subst, ◌∙◌}
+use Rattle.std.proofs.lemmas.Result.{err_from_is_err_and}
+use Rattle.volume_model.specs.declared.log.Tx.{Tx}
+use Rattle.log_scan.specs.Answers.{IsRow, IsTx}
+use Rattle.log_scan.specs.declared.log.ScanError.{ScanError}
+use Rattle.log_scan.proofs.TxTold.{rest_at, stop_told, none_told, whole_told, short_told, bad_told}
 use Rattle.log_scan.proofs.log.read_tx.Goals as goal
 
-pub returns-in-Ok-Whole-clause-value : goal.returns-in-Ok-Whole-clause-value
-returns-in-Ok-Whole-clause-value c =
-    λ more.
-    by_run c.args.g.now c.args.header.now c.args.tid c.args.at c.row_len-sectors.result more (drop c.args.at (sectors_in c.args.ring.now)) c.deref.result.now (Whole c.in-Ok-Whole.deltas)
-    c.row_len-sectors.ensures.value (c.deref.ensures.value ∙ c.in_ok-payload.ensures) (rw c.in-Ok-Whole.field-0-is at c.in-Ok-Whole.ensures)
-    ∙ ap (λ (place : ℕ). with_tx (record { tid = c.args.tid; first = place; sectors = c.row_len-sectors.result; deltas = c.in-Ok-Whole.deltas })
-    (transactions_from c.args.g.now (ring_of c.args.g.now) c.args.header.now more (c.args.tid + 1) (c.args.at + c.row_len-sectors.result) (drop c.row_len-sectors.result (drop c.args.at (sectors_in c.args.ring.now)))))
-    (sym c.place_of.ensures)
+pub returns-in_err-sectors-clause-value : goal.returns-in_err-sectors-clause-value
+returns-in_err-sectors-clause-value g c =
+    let h = c.args.header.now in
+    let p = err_from_is_err_and c.from_residual.result c.from_residual.ensures.1 in
+    subst (λ (r : Result (Option Tx) ScanError). IfSome (g.D.Disk.told c.args.disk.now).present (λ image. IsTx c.args.g.now h c.args.tid c.args.at (rest_at c.args.g.now h c.args.at image) r))
+    (sym (p.1 ∙ ap (λ (e : ScanError). Err e) p.2))
+    (stop_told c.args.g.now h c.args.tid c.args.at (g.D.Disk.told c.args.disk.now).present c.in_err-sectors.field-0.0 c.in_err-sectors.ensures.stop)
 
-pub returns-in-Ok-Whole-clause-inside : goal.returns-in-Ok-Whole-clause-inside
-returns-in-Ok-Whole-clause-inside c = (
-  whole_has_sectors c.args.g.now c.args.tid c.row_len-sectors.result (drop c.args.at (sectors_in c.args.ring.now)) c.deref.result.now c.in-Ok-Whole.deltas (c.deref.ensures.value ∙ c.in_ok-payload.ensures) (rw c.in-Ok-Whole.field-0-is at c.in-Ok-Whole.ensures),
-  omega (arith, c.row_len-sectors.ensures.inside),
-)
+pub returns-then-sectors-eq0-clause-value : goal.returns-then-sectors-eq0-clause-value
+returns-then-sectors-eq0-clause-value g c =
+    none_told c.args.g.now c.args.header.now c.args.tid c.args.at c.in_ok-sectors.sectors (g.D.Disk.told c.args.disk.now).present c.in_ok-sectors.payload.items c.if-sectors-eq0.true c.in_ok-sectors.ensures.row
+
+pub returns-in-Ok-Whole-clause-value : goal.returns-in-Ok-Whole-clause-value
+returns-in-Ok-Whole-clause-value g c =
+    let h = c.args.header.now in
+    let row = subst (λ (l : List ℕ). IfSome (g.D.Disk.told c.args.disk.now).present (λ image. IsRow h.epoch c.args.tid (rest_at c.args.g.now h c.args.at image) c.in_ok-sectors.sectors l))
+    (sym c.deref.ensures.value) c.in_ok-sectors.ensures.row in
+    whole_told c.args.g.now h c.args.tid c.args.at c.in_ok-sectors.sectors c.place_of.result (g.D.Disk.told c.args.disk.now).present c.deref.result.now c.in-Ok-Whole.deltas c.place_of.ensures
+    (rw c.in-Ok-Whole.field-0-is at c.in-Ok-Whole.ensures) row
 
 pub returns-in-Ok-Short-clause-value : goal.returns-in-Ok-Short-clause-value
-returns-in-Ok-Short-clause-value c =
-    λ more.
-    by_run c.args.g.now c.args.header.now c.args.tid c.args.at c.row_len-sectors.result more (drop c.args.at (sectors_in c.args.ring.now)) c.deref.result.now Short
-    c.row_len-sectors.ensures.value (c.deref.ensures.value ∙ c.in_ok-payload.ensures) (rw c.in-Ok-Short.field-0-is at c.in-Ok-Short.ensures)
+returns-in-Ok-Short-clause-value g c =
+    let h = c.args.header.now in
+    let row = subst (λ (l : List ℕ). IfSome (g.D.Disk.told c.args.disk.now).present (λ image. IsRow h.epoch c.args.tid (rest_at c.args.g.now h c.args.at image) c.in_ok-sectors.sectors l))
+    (sym c.deref.ensures.value) c.in_ok-sectors.ensures.row in
+    short_told c.args.g.now h c.args.tid c.args.at c.in_ok-sectors.sectors (g.D.Disk.told c.args.disk.now).present c.deref.result.now (rw c.in-Ok-Short.field-0-is at c.in-Ok-Short.ensures) row
 
 pub returns-in-Err-Bad-clause-value : goal.returns-in-Err-Bad-clause-value
-returns-in-Err-Bad-clause-value c =
-    λ more.
-    by_run c.args.g.now c.args.header.now c.args.tid c.args.at c.row_len-sectors.result more (drop c.args.at (sectors_in c.args.ring.now)) c.deref.result.now Bad
-    c.row_len-sectors.ensures.value (c.deref.ensures.value ∙ c.in_ok-payload.ensures) (rw c.in-Err-Bad.field-0-is at c.in-Err-Bad.ensures)
-    ∙ ap (λ (place : ℕ). BadRun c.args.tid place) (sym c.place_of-in-Err-Bad.ensures)
+returns-in-Err-Bad-clause-value g c =
+    let h = c.args.header.now in
+    let row = subst (λ (l : List ℕ). IfSome (g.D.Disk.told c.args.disk.now).present (λ image. IsRow h.epoch c.args.tid (rest_at c.args.g.now h c.args.at image) c.in_ok-sectors.sectors l))
+    (sym c.deref.ensures.value) c.in_ok-sectors.ensures.row in
+    bad_told c.args.g.now h c.args.tid c.args.at c.in_ok-sectors.sectors c.place_of-in-Err-Bad.result (g.D.Disk.told c.args.disk.now).present c.deref.result.now c.place_of-in-Err-Bad.ensures
+    (rw c.in-Err-Bad.field-0-is at c.in-Err-Bad.ensures) row
