@@ -35,7 +35,7 @@ covers_not home len place out =
       | inr behind ↦ and_right (leb home at) (ltb at (home + len)) (le-ltb at (home + len) (omega (arith, behind)))
     ]
 
-inside : (d : Delta) (place byte : ℕ) → d.home % 4096 ≤ place → place < d.home % 4096 + d.len → laid_byte (d ∷ []) place byte ≡ unwrap_or (byte_of d (place - d.home % 4096)) byte
+pub inside : (d : Delta) (place byte : ℕ) → d.home % 4096 ≤ place → place < d.home % 4096 + d.len → laid_byte (d ∷ []) place byte ≡ unwrap_or (byte_of d (place - d.home % 4096)) byte
 inside d place byte low high =
     let at = 4096 * (d.home / 4096) + place in
     let there : at - d.home ≡ place - d.home % 4096 = omega (arith, low) in
@@ -43,7 +43,7 @@ inside d place byte low high =
     ∙ ap (λ (test : Bool). unwrap_or (cond test (byte_of d (at - d.home)) None) byte) (covers d.home d.len place low high)
     ∙ ap (λ (i : ℕ). unwrap_or (byte_of d i) byte) there
 
-outside : (d : Delta) (place byte : ℕ) → (place < d.home % 4096) ⊎ (d.home % 4096 + d.len ≤ place) → laid_byte (d ∷ []) place byte ≡ byte
+pub outside : (d : Delta) (place byte : ℕ) → (place < d.home % 4096) ⊎ (d.home % 4096 + d.len ≤ place) → laid_byte (d ∷ []) place byte ≡ byte
 outside d place byte out =
     let at = 4096 * (d.home / 4096) + place in
     one_byte (given_in_block place d) byte

@@ -2,3 +2,10 @@ pub mod LaidBlocks
 pub mod LaidParts
 pub mod LiveDeltas
 pub mod LogLaid
+pub mod MergeSteps
+pub mod MergedTable
+pub mod PutBytes
+pub mod ImageLaid
+pub mod FreeBlocks
+pub mod PlainSteps
+pub mod NothingApplied

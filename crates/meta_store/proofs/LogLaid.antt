@@ -16,13 +16,13 @@ use Rattle.volume_model.specs.declared.log.Tx.{Tx}
 use Rattle.volume_model.specs.Format.{Image}
 use Rattle.volume_model.specs.Log.{Transactions, Listed, BadRun, Log, WithHeader, Run, Whole, Short, Bad, may_be_logged, is_part_of_block, is_cancel, is_zero_block, with_tx, transactions_at, transactions_from, row_of, payload_of, run_of, ring_from, log_after, log_with, log_of, cancels, live_deltas, byte_of, given_at, replayed, recovered, recovered_by}
 use Rattle.volume_model.proofs.ReplayLaws.{length-replayed, byte_replayed}
-use Rattle.log_format.proofs.WholeRun.{whole_loggable}
+use Rattle.log_laws.proofs.WholeRun.{whole_loggable}
 use Rattle.meta_store.specs.LaidSize.{length-laid_over}
 use Rattle.meta_store.specs.Laid.{given_in_block, laid_byte, laid_over, lays_on, laid_on, IsWithinBlock, AreWithinBlocks}
 use Rattle.meta_store.proofs.LaidBlocks.{laid_over_at}
 
 -- a cancel gives no byte
-cancel_gives_none : (d : Delta) (i : ℕ) (kind : DeltaKind) → is_cancel kind ≡ true → cond (has_bytes kind) (Some (slice_index d.bytes i)) (cond (is_zero_block kind) (Some 0) None) ≡ None
+pub cancel_gives_none : (d : Delta) (i : ℕ) (kind : DeltaKind) → is_cancel kind ≡ true → cond (has_bytes kind) (Some (slice_index d.bytes i)) (cond (is_zero_block kind) (Some 0) None) ≡ None
 cancel_gives_none d i Group is = absurd (false≢true is)
 cancel_gives_none d i Inode is = absurd (false≢true is)
 cancel_gives_none d i Chunk is = absurd (false≢true is)
@@ -31,7 +31,7 @@ cancel_gives_none d i Zero is = absurd (false≢true is)
 cancel_gives_none d i LinkText is = absurd (false≢true is)
 cancel_gives_none d i Cancel is = refl
 
-none_or_none : (test : Bool) (given : Option ℕ) → given ≡ None → cond test given None ≡ None
+pub none_or_none : (test : Bool) (given : Option ℕ) → given ≡ None → cond test given None ≡ None
 none_or_none true given is = is
 none_or_none false given is = refl
 
@@ -52,7 +52,7 @@ gives_nothing b address d low high within not_here =
     ]
 
 -- the deltas of the block give for its byte what all deltas give
-given_by_block : (b place address : ℕ) (deltas : List Delta) → place < 4096 → address ≡ 4096 * b + place → AllByRecursion IsWithinBlock deltas
+pub given_by_block : (b place address : ℕ) (deltas : List Delta) → place < 4096 → address ≡ 4096 * b + place → AllByRecursion IsWithinBlock deltas
     → filter_map (given_in_block place) (filter (lays_on b) deltas) ≡ filter_map (given_at address) deltas
 given_by_block b place address [] low is within = refl
 given_by_block b place address (d ∷ deltas) low is within =
@@ -115,7 +115,7 @@ part_within LinkText place len low is =
     omega (arith, eqb-true place 0 q.0, leb-true len 1024 p.1)
 part_within Cancel place len low is = let p = and_parts (eqb place 0) (eqb len 4096) is in omega (arith, eqb-true place 0 p.0, eqb-true len 4096 p.1)
 
-logged_within : (g : Geometry) (kind : DeltaKind) (home len : ℕ) → may_be_logged g kind home len ≡ true → home % 4096 + len ≤ 4096
+pub logged_within : (g : Geometry) (kind : DeltaKind) (home len : ℕ) → may_be_logged g kind home len ≡ true → home % 4096 + len ≤ 4096
 unfolding may_be_logged
 logged_within g kind home len is =
     let low : home % 4096 < 4096 = omega arith in

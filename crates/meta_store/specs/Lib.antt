@@ -2,3 +2,9 @@ pub mod Store
 pub mod Laid
 pub mod Index
 pub mod LaidSize
+pub mod Changing
+pub mod Merged
+pub mod NoChange
+pub mod Changes
+pub mod Conditions
+pub mod Plain

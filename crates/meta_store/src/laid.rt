@@ -22,19 +22,19 @@ pub struct LaidDeltas {
 }
 
 // The block that a delta lies in.
-fn block_of(delta: &Delta) -> u64
+pub(crate) fn block_of(delta: &Delta) -> u64
     ensures { result ≡ delta.now.home / 4096 }
 {
     delta.home / BLOCK as u64
 }
 
-fn is_cancel(delta: &Delta) -> bool
+pub(crate) fn is_cancel(delta: &Delta) -> bool
     ensures { result ≡ is_cancel delta.now.kind }
 {
     matches!(delta.kind, DeltaKind::Cancel)
 }
 
-fn copy_of(alloc: Global, delta: &Delta) -> Result<Delta, Mem>
+pub(crate) fn copy_of(alloc: Global, delta: &Delta) -> Result<Delta, Mem>
     ensures { IfOk result (λ copy. copy ≡ delta.now) }
 {
     let bytes = Bytes::from_slice(alloc, delta.bytes.as_slice())?;

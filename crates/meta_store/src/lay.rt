@@ -27,8 +27,8 @@ fn lay_over_part(delta: &Delta, part: &mut [u8])
     }
 }
 
-// Lays a delta over its block. What reaches past the block isn't laid.
-fn lay_delta(delta: &Delta, block: &mut [u8])
+/// Lays a delta over its block. What reaches past the block isn't laid.
+pub fn lay_delta(delta: &Delta, block: &mut [u8])
     requires { length block.old ≡ 4096 }
     ensures { block.new ≡ laid_block (delta.now ∷ []) block.old }
 {

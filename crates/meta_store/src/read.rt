@@ -3,6 +3,7 @@ ghost use Rattle.lufs_base.specs.Layout.{IsGeometry, blocks_of};
 ghost use Rattle.volume_model.specs.Format.{sectors_of};
 ghost use Rattle.sector_disk.specs.Disk.{CountsFailure};
 ghost use Rattle.meta_store.specs.Store.{StoreTold, IsBlockRead, IsUnchanged};
+ghost use Rattle.meta_store.specs.Changing.{Changing, IsKept};
 
 use lufs_base::{BlockNo, DiskFault, Geometry};
 
@@ -10,6 +11,9 @@ use lufs_base::{BlockNo, DiskFault, Geometry};
 pub trait MetaRead: Drop {
     /// What it tells of itself: its geometry always, what its blocks hold as it likes.
     ghost store: { Self → StoreTold };
+
+    /// What it tells besides, if it takes changes.
+    ghost changing: { Self → Changing };
 
     /// The geometry of the volume. No call changes it.
     fn geometry(&self) -> &Geometry
@@ -26,6 +30,7 @@ pub trait MetaRead: Drop {
         requires size { length out.old ≡ 4096 }
         ensures bytes { OnOk result (IsBlockRead b.0 out.new (store self.old)) }
         ensures unchanged { IsUnchanged (store self.old) (store self.new) }
+        ensures kept { IsKept (changing self.old) (changing self.new) }
         ensures failure { CountsFailure result (store self.old).disk (store self.new).disk };
 
     /// The content that is told has the blocks of the volume.

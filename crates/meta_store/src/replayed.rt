@@ -69,8 +69,11 @@ impl<D: Disk> MetaRead for ReplayedDisk<D> {
     ghost use Rattle.lufs_base.specs.Layout.{blocks_of};
     ghost use Rattle.meta_store.specs.Index.{deltas_of, replayed_told};
     ghost use Rattle.meta_store.specs.LaidSize.{laid_size};
+    ghost use Rattle.meta_store.specs.Changing.{no_changes};
 
     ghost store = { λ s. replayed_told s.volume.geometry s.laid (D.told s.volume.disk) };
+
+    ghost changing = { λ s. no_changes };
 
     fn geometry(&self) -> &Geometry {
         &self.volume.geometry

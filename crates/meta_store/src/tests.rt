@@ -1,6 +1,9 @@
-ghost use Rattle.std.specs.Prelude.{◌≡◌, ◌%◌, length, IfOk};
+ghost use Rattle.std.specs.Prelude.{◌≡◌, ◌%◌, ◌↔◌, ◌≤◌, ◌+◌, length, IfOk, IsTrue, All};
+ghost use Rattle.meta_store.specs.Laid.{IsWithinBlock};
 
-use crate::{LaidDeltas, MetaRead, PlainStore, ReplayedDisk};
+use crate::{
+    Change, LaidDeltas, MetaRead, MetaStore, PlainStore, ReplayedDisk, StoreError, merged,
+};
 use lufs_base::{BLOCK, BlockNo, Bytes, Delta, DeltaKind, DeltaList, DiskFault, Geometry, Mem};
 use sector_disk::{Disk, Fail, MemDisk, SureDisk};
 use std::alloc::Global;
@@ -20,7 +23,7 @@ const BLOCKS: [u32; 8] = [0, 2, 3, 35, 36, 37, 38, 98];
 
 /// A delta: its transaction, from 1, its kind, its block, its place there, its length, and the byte that
 /// fills it.
-type Change = (u32, DeltaKind, u32, u32, u32, u8);
+type Laying = (u32, DeltaKind, u32, u32, u32, u8);
 
 /// The places of a block from one up to another, and the byte that fills them.
 type Span = (u32, usize, usize, u8);
@@ -39,7 +42,7 @@ fn numbered_blocks(alloc: Global) -> Result<Vec<u8>, Mem>
     Ok(image)
 }
 
-fn delta_of(alloc: Global, change: &Change) -> Result<Delta, Mem> {
+fn delta_of(alloc: Global, change: &Laying) -> Result<Delta, Mem> {
     let (_, kind, block, place, len, byte) = *change;
     let mut bytes = Vec::new(alloc);
     if kind.has_bytes() {
@@ -56,7 +59,7 @@ fn delta_of(alloc: Global, change: &Change) -> Result<Delta, Mem> {
 }
 
 // A log of three transactions.
-fn log_of(alloc: Global, changes: &[Change]) -> Result<TxList, Mem> {
+fn log_of(alloc: Global, changes: &[Laying]) -> Result<TxList, Mem> {
     let mut log = TxList::new(alloc);
     for tid in 1..4 {
         let mut deltas = DeltaList::new(alloc);
@@ -79,7 +82,7 @@ fn log_of(alloc: Global, changes: &[Change]) -> Result<TxList, Mem> {
 fn over<D: Disk>(
     alloc: Global,
     disk: D,
-    changes: &[Change],
+    changes: &[Laying],
 ) -> Result<Option<ReplayedDisk<D>>, Mem> {
     let laid = LaidDeltas::new(alloc, &log_of(alloc, changes)?)?;
     if disk.sectors() < 792 {
@@ -220,5 +223,180 @@ fn a_read_that_fails(rt: HostRuntime) -> Result<(), std::test::Fail> {
         assert_eq!(rt; store.faults(), faults);
     }
     assert_eq!(rt; store.into_disk().faults(), 1);
+    Ok(())
+}
+
+fn is_within_block(delta: &Delta) -> bool
+    ensures { IsTrue result ↔ IsWithinBlock delta.now }
+{
+    (delta.home % 4096) as usize + delta.len as usize <= BLOCK
+}
+
+fn are_within_blocks(deltas: &[Delta]) -> bool
+    ensures { IsTrue result → All IsWithinBlock deltas.now }
+{
+    for delta in deltas {
+        if !is_within_block(delta) {
+            return false;
+        }
+    }
+    true
+}
+
+// These deltas merged, as their kinds, homes, lengths and first and last bytes.
+fn merged_all(
+    alloc: Global,
+    layings: &[Laying],
+) -> Result<Vec<(DeltaKind, u64, u32, Option<u8>, Option<u8>)>, Mem> {
+    let mut all = Vec::new(alloc);
+    for laying in layings {
+        let delta = delta_of(alloc, laying)?;
+        if is_within_block(&delta) && are_within_blocks(all.as_slice()) {
+            all = merged(alloc, all.as_slice(), &delta)?;
+        }
+    }
+    let mut seen = Vec::new(alloc);
+    for delta in all.as_slice() {
+        let bytes = delta.bytes.as_slice();
+        seen.push((
+            delta.kind,
+            delta.home,
+            delta.len,
+            bytes.first().copied(),
+            bytes.last().copied(),
+        ))?;
+    }
+    Ok(seen)
+}
+
+#[test]
+fn merged_deltas(rt: HostRuntime) -> Result<(), std::test::Fail> {
+    let alloc = rt.alloc();
+    for (what, layings, want) in [
+        (
+            "homes rise",
+            &[
+                (0, DeltaKind::Chunk, 37, 512, 512, 1),
+                (0, DeltaKind::Group, 35, 0, 416, 2),
+                (0, DeltaKind::Chunk, 37, 0, 512, 3),
+            ][..],
+            &[
+                (DeltaKind::Group, 0x23000, 416, Some(2), Some(2)),
+                (DeltaKind::Chunk, 0x25000, 512, Some(3), Some(3)),
+                (DeltaKind::Chunk, 0x25200, 512, Some(1), Some(1)),
+            ][..],
+        ),
+        (
+            "a later one replaces",
+            &[
+                (0, DeltaKind::Inode, 36, 256, 128, 1),
+                (0, DeltaKind::Inode, 36, 384, 128, 2),
+                (0, DeltaKind::Inode, 36, 256, 128, 3),
+            ][..],
+            &[
+                (DeltaKind::Inode, 0x24100, 128, Some(3), Some(3)),
+                (DeltaKind::Inode, 0x24180, 128, Some(2), Some(2)),
+            ][..],
+        ),
+        (
+            "pointers that touch or overlap",
+            &[
+                (0, DeltaKind::Pointers, 38, 16, 8, 1),
+                (0, DeltaKind::Pointers, 38, 32, 8, 2),
+                (0, DeltaKind::Pointers, 38, 48, 8, 3),
+                (0, DeltaKind::Pointers, 38, 24, 12, 4),
+            ][..],
+            &[
+                (DeltaKind::Pointers, 0x26010, 24, Some(1), Some(2)),
+                (DeltaKind::Pointers, 0x26030, 8, Some(3), Some(3)),
+            ][..],
+        ),
+        (
+            "pointers at the end of a block and the start of the next",
+            &[
+                (0, DeltaKind::Pointers, 38, 4092, 4, 1),
+                (0, DeltaKind::Pointers, 39, 0, 4, 2),
+            ][..],
+            &[
+                (DeltaKind::Pointers, 0x26ffc, 4, Some(1), Some(1)),
+                (DeltaKind::Pointers, 0x27000, 4, Some(2), Some(2)),
+            ][..],
+        ),
+        (
+            "a zero block first",
+            &[
+                (0, DeltaKind::Chunk, 38, 512, 512, 1),
+                (0, DeltaKind::Zero, 38, 0, 4096, 0),
+                (0, DeltaKind::Chunk, 38, 0, 512, 2),
+            ][..],
+            &[
+                (DeltaKind::Zero, 0x26000, 4096, None, None),
+                (DeltaKind::Chunk, 0x26000, 512, Some(2), Some(2)),
+            ][..],
+        ),
+        (
+            "a cancel alone",
+            &[
+                (0, DeltaKind::Zero, 38, 0, 4096, 0),
+                (0, DeltaKind::Chunk, 38, 512, 512, 1),
+                (0, DeltaKind::Chunk, 39, 0, 512, 2),
+                (0, DeltaKind::Cancel, 38, 0, 4096, 0),
+            ][..],
+            &[
+                (DeltaKind::Cancel, 0x26000, 4096, None, None),
+                (DeltaKind::Chunk, 0x27000, 512, Some(2), Some(2)),
+            ][..],
+        ),
+    ] {
+        assert_eq!(rt; merged_all(alloc, layings)?.as_slice(), want, "{what}");
+    }
+    Ok(())
+}
+
+// The smallest volume with this group record and else zeros.
+fn with_group(alloc: Global, block_bits: [u8; 8]) -> Result<Vec<u8>, Mem>
+    ensures { IfOk result (λ image. length image.items ≡ 405504) }
+{
+    let mut image = Vec::new(alloc);
+    for b in 0..99u8 {
+        let mut block = [0; BLOCK];
+        if b == 35 {
+            block[..4].copy_from_slice(&[0, 9, 2, 0x55]);
+            block[32] = 3;
+            block[160..168].copy_from_slice(&block_bits);
+        }
+        image.extend_from_slice(&block)?;
+    }
+    if image.len() != 405_504 {
+        return Err(Mem);
+    }
+    Ok(image)
+}
+
+// Applies no change.
+fn apply_nothing<S: MetaStore>(alloc: Global, store: &mut S) -> Result<(), StoreError> {
+    store.apply(alloc, &Change::new(alloc))
+}
+
+#[test]
+fn released_blocks(rt: HostRuntime) -> Result<(), std::test::Fail> {
+    let alloc = rt.alloc();
+    let image = with_group(alloc, [0x07, 0, 0, 0, 0, 0, 0, 0x80])?;
+    let mut store = PlainStore::new(&SMALLEST, image);
+    assert_eq!(rt; apply_nothing(alloc, &mut store), Ok(()));
+    for (b, want) in [
+        (0, false),
+        (34, false),
+        (35, false),
+        (36, false),
+        (37, false),
+        (38, true),
+        (97, true),
+        (98, false),
+    ] {
+        if b < store.geometry().total() {
+            assert_eq!(rt; store.is_released(BlockNo(b)), want, "{b}");
+        }
+    }
     Ok(())
 }
