@@ -1,8 +1,12 @@
-"""Writes a sound volume for the benchmarks: make_volume.py KIND FILE COUNT.
+"""Writes a sound volume for the benchmarks: make_volume.py KIND FILE COUNT [READ].
 
-`files`: COUNT files in directories of 100, with names of 20 bytes: of twenty files eighteen have one block, one has
+`empty`: what `mkfs` makes, but for the moments. `files`: COUNT files in directories of 100, with names of 20 bytes: of twenty files eighteen have one block, one has
 thirteen and a pointer block, and one has none. `names`: one directory with COUNT names of three bytes, of files with
 10,000 names each. `chain`: COUNT directories, each inside the one before. docs/FORMAT.md has the layout.
+
+Into the file READ, where it is named, go copies of the blocks that a check of the volume reads after its log, in the
+order in which it reads them: those of the groups, those of the inodes, and then of each inode its pointer block and,
+of a directory, its blocks.
 """
 import struct
 import sys
@@ -20,6 +24,7 @@ class Volume:
         self.inode_bits = [bytearray(128) for _ in range(GROUPS)]
         self.block_bits = [bytearray(256) for _ in range(GROUPS)]
         self.inodes = {}
+        self.read = {}
         self.next_inode, self.next_block = 2, FIRST
         self.set_inode(0)
         self.set_inode(1)
@@ -54,6 +59,7 @@ class Volume:
         pointer = 0
         if wanted > 12:
             pointer = self.take_block()
+            self.read[i] = [pointer]
             self.put(pointer, struct.pack(">1024I", *(numbers[12:] + [0] * (1036 - wanted))))
         direct = (numbers + [0] * 12)[:12]
         self.inodes[i] = struct.pack(">HHIIIQQ12I3II32x", mode, links, 0, 0, 0, size, 1000, *direct, pointer, 0, 0,
@@ -79,6 +85,7 @@ class Volume:
                     length += 512 - used
                 data += struct.pack(">IHH", number, length, len(name)) + name.ljust(length - 8, b"\0")
         numbers = self.make(i, DIRECTORY, 2 + children, len(data), -(-len(data) // 4096))
+        self.read[i] = self.read.get(i, []) + numbers
         for at, block in enumerate(numbers):
             self.put(block, bytes(data[4096 * at:4096 * at + 4096]).ljust(4096, b"\0"))
 
@@ -95,6 +102,20 @@ class Volume:
         self.out.seek(512 * 16)
         self.out.write(struct.pack(">7I", 0x00011954, 1, GROUPS, BPG, IPG, LOG, self.blocks))
         self.out.close()
+
+    def copy_read(self, path, to):
+        starts = [FIRST + group * BPG for group in range(GROUPS)]
+        blocks = starts + [start + 1 + k for start in starts for k in range(IPG // 32)]
+        blocks += [block for i in sorted(self.read) for block in self.read[i]]
+        with open(path, "rb") as volume, open(to, "wb") as out:
+            for block in blocks:
+                volume.seek(4096 * block)
+                out.write(volume.read(4096))
+
+
+def empty(volume, count):
+    root = volume.take_inode()
+    volume.directory(root, root, [], 0)
 
 
 def files(volume, count):
@@ -133,5 +154,7 @@ def chain(volume, count):
 
 kind, path, count = sys.argv[1], sys.argv[2], int(sys.argv[3])
 made = Volume(path)
-{"files": files, "names": names, "chain": chain}[kind](made, count)
+{"empty": empty, "files": files, "names": names, "chain": chain}[kind](made, count)
 made.close()
+if len(sys.argv) > 4:
+    made.copy_read(path, sys.argv[4])

@@ -1,5 +1,5 @@
 -- What is read of the blocks that a store tells.
-use Rattle.std.proofs.Common.{◌≡◌, ◌<◌, ℕ, ◌+◌, ◌/◌, ◌%◌, eqb, Bool, false, if◌then◌else◌, List, [], ◌++◌, length, take, drop, replicate, slice_index, Option, Some, None, Result, Ok, Err, IfSome, OnOk, option_map, sym, ap, subst, ◌∙◌, arith}
+use Rattle.std.proofs.Common.{◌≡◌, ◌<◌, ℕ, ◌+◌, ◌/◌, ◌%◌, eqb, Bool, true, false, if◌then◌else◌, List, [], ◌++◌, length, take, drop, replicate, slice_index, Option, Some, None, Result, Ok, Err, IfSome, OnOk, option_map, sym, ap, subst, ◌∙◌, arith}
 use Rattle.std.proofs.lemmas.Bool.{ne_eqb}
 use Rattle.std.proofs.Math.Seq.{take-append_seam}
 use Rattle.std.proofs.Math.ListN.{drop_of_length-le}
@@ -8,10 +8,11 @@ use borrow.Rule.Slice.PartMut.{put_mid}
 use Rattle.meta_store.specs.declared.error.StoreError.{StoreError}
 use Rattle.std.proofs.Math.Nat.{mod-lt, div-lt_iff_lt-mul}
 use Rattle.lufs_base.proofs.Places.{group_fits}
+use Rattle.lufs_base.specs.Fields.{are_zeros}
 use Rattle.lufs_base.specs.Layout.{IsGeometry, group_start, inode_address, blocks_of}
 use Rattle.lufs_base.specs.declared.geometry.Geometry.{Geometry}
 use Rattle.volume_model.specs.declared.inode.Dinode.{Dinode}
-use Rattle.volume_model.specs.Format.{Image, block, group_of, dinode_of, inodes_of, pointers_of}
+use Rattle.volume_model.specs.Format.{Image, block, group_of, is_dinode, named_dinode, dinode_of, inodes_of, pointers_of}
 use Rattle.volume_model.specs.Sound.{group_at, inode_at, pointers_at, numbers_of}
 use Rattle.cyl_groups.specs.declared.group.Group.{Group}
 use Rattle.cyl_groups.specs.Group.{record_of}
@@ -27,6 +28,12 @@ group_told g read (Some image) n b bytes found read_as geometry place told same 
     ∙ ap (λ (xs : List ℕ). group_of read n (take 416 xs)) (told ∙ ap (block image) place)
     ∙ ap (λ (h : Geometry). group_at h (block image) n) geometry
 
+-- a record of zeros is a free one
+pub free_record : (version : ℕ) (bytes : List ℕ) → are_zeros bytes ≡ true → Some None ≡ dinode_of version bytes
+unfolding dinode_of
+free_record version bytes zeros =
+    sym (ap (λ (b : Bool). if b then Some None else (if is_dinode version bytes then Some (Some (named_dinode bytes)) else None)) zeros)
+
 -- the record that was read of inode i, from the block that holds it
 pub inode_told : (g read : Geometry) (content : Option Image) (i place : ℕ) (size : ℕ) (bytes : List ℕ) (number : Option ℕ) (found read_as : Option (Option Dinode)) → read ≡ g
     → place ≡ inode_address read i → number ≡ Some (place / 4096) → AreOfBlock content number bytes → found ≡ read_as
@@ -40,12 +47,6 @@ inode_told g read (Some image) i place size bytes number found read_as geometry 
     ∙ ap (λ (xs : List ℕ). dinode_of read.version (take 128 (drop (place % 4096) xs))) shown
     ∙ ap (λ (p : ℕ). dinode_of read.version (take 128 (drop (p % 4096) (block image (p / 4096))))) at
     ∙ ap (λ (h : Geometry). inode_at h (block image) i) geometry
-
--- a missing pointer block reads as zeros
-pub no_pointers_told : (content : Option Image) (number : ℕ) (out : List ℕ) → number ≡ 0 → out ≡ replicate 1024 0
-    → IfSome content (λ image. out ≡ pointers_at (block image) number)
-no_pointers_told None number out none zeros = tt
-no_pointers_told (Some image) number out none zeros = zeros ∙ ap (pointers_at (block image)) (sym none)
 
 -- the numbers of the pointer block that was read
 pub pointers_told : (content : Option Image) (number : ℕ) (bytes numbers out : List ℕ) → (number ≡ 0 → ⊥) → IfSome content (λ image. bytes ≡ block image number)

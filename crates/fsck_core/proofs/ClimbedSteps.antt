@@ -1,5 +1,5 @@
 -- Where the steps up lead: twice as far with each pass, and to the root or not.
-use Rattle.std.proofs.Common.{◌≡◌, ◌<◌, ℕ, zero, suc, ◌+◌, List, length, map, slice_index, refl, sym, ap, subst, ◌∙◌, arith}
+use Rattle.std.proofs.Common.{◌≡◌, ◌<◌, ℕ, zero, suc, ◌+◌, List, length, map, slice_index, Result, Ok, Err, IfOk, Vec, Global, refl, sym, ap, subst, ◌∙◌, arith}
 use Rattle.std.proofs.lemmas.List.{length-map, get_or-map}
 use Rattle.std.proofs.lemmas.List.FromFn.{length-range_with_len, get_or-range_with_len}
 use Rattle.std.specs.List.{range_with_len}
@@ -70,6 +70,28 @@ steps_doubled above steps left half step far twice even is climbs =
           stepped_twice step twice (climbs.closed closed) at half (slice_index far i) (omega (arith, climbs.step_size, climbs.inside closed i less))
           ∙ ap (λ (n : ℕ). stepped step n (slice_index far i)) (sym even) ∙ climbs.each closed i less;
     }
+
+-- where a step of two leads no further than one, many lead no further
+idle : (step : List ℕ) → IsClosed step → map (slice_index step) step ≡ step → (n i : ℕ) → i < length step → stepped step (suc n) i ≡ slice_index step i
+idle step closed same zero i inside = refl
+idle step closed same (suc n) i inside =
+    idle step closed same n (slice_index step i) (closed i inside) ∙ sym (composed_at step step i inside) ∙ ap (λ (xs : List ℕ). slice_index xs i) same
+
+pub climb_settled : (above : List ℕ) (steps left less : ℕ) (step far more : List ℕ) → left ≡ suc less → map (slice_index step) step ≡ step → more ≡ map (slice_index step) far
+    → Climbs above steps left step far → LeadsUp above steps more
+climb_settled above steps left less step far more one same is climbs = record {
+  size = ap length is ∙ length-map far (slice_index step) ∙ climbs.far_size;
+  each = λ closed i below.
+      ap (λ (xs : List ℕ). slice_index xs i) is ∙ composed_at step far i (omega (arith, climbs.far_size, below))
+      ∙ sym (idle step (climbs.closed closed) same less (slice_index far i) (omega (arith, climbs.step_size, climbs.inside closed i below)))
+      ∙ ap (λ (n : ℕ). stepped step n (slice_index far i)) (sym one) ∙ climbs.each closed i below;
+}
+
+pub climb_settled_in : {E : Type 0} (above : List ℕ) (steps left less : ℕ) (step far second first : List ℕ) (more : Result (Vec ℕ Global) E) → left ≡ suc less → map (slice_index step) step ≡ step
+    → first ≡ far → second ≡ step → IfOk more (λ v. v.items ≡ map (slice_index second) first) → Climbs above steps left step far → IfOk more (λ v. LeadsUp above steps v.items)
+climb_settled_in above steps left less step far second first (Ok v) one same of_far of_step is climbs =
+    climb_settled above steps left less step far v.items one same (is ∙ ap (λ (xs : List ℕ). map (slice_index xs) first) of_step ∙ ap (map (slice_index step)) of_far) climbs
+climb_settled_in above steps left less step far second first (Err e) one same of_far of_step is climbs = tt
 
 pub climb_ended : (above : List ℕ) (steps left : ℕ) (step far : List ℕ) → left ≡ 0 → Climbs above steps left step far → LeadsUp above steps far
 climb_ended above steps left step far none climbs = record {

@@ -16,13 +16,13 @@ use Rattle.fsck_core.proofs.Nonzero.{list_all-nonzero, nonzero-take}
 use Rattle.fsck_core.proofs.ClaimBridges.{blocks-claims_in}
 
 -- each claim is of a body block, said of the blocks that are claimed
-bodies-claims_in : (g : Geometry) (i : ℕ) (d : Dinode) (numbers : List ℕ) (chunks : List (Option (List Slot)))
+pub bodies-claims_in : (g : Geometry) (i : ℕ) (d : Dinode) (numbers : List ℕ) (chunks : List (Option (List Slot)))
     → list_all (λ claim. is_body g claim.block) (claims_in i (used_with d numbers chunks)) ≡ list_all (is_body g) (blocks_claimed d numbers)
 bodies-claims_in g i d numbers chunks =
     sym (list_all-map (is_body g) (λ claim. claim.block) (claims_in i (used_with d numbers chunks)))
     ∙ ap (list_all (is_body g)) (blocks-claims_in i d numbers chunks)
 
-length-claims_in : (i : ℕ) (d : Dinode) (numbers : List ℕ) (chunks : List (Option (List Slot)))
+pub length-claims_in : (i : ℕ) (d : Dinode) (numbers : List ℕ) (chunks : List (Option (List Slot)))
     → length (claims_in i (used_with d numbers chunks)) ≡ length (blocks_claimed d numbers)
 length-claims_in i d numbers chunks =
     sym (length-map (claims_in i (used_with d numbers chunks)) (λ claim. claim.block)) ∙ ap length (blocks-claims_in i d numbers chunks)
@@ -91,6 +91,7 @@ some_past g i d numbers chunks wrong = sym (and_left _ _ (and_left _ _ (and_righ
 pub record HasParts (g : Geometry) (d : Dinode) (numbers : List ℕ) (chunks : List (Option (List Slot))) : Type 0 where
   pub size : has_right_size g d ≡ true
   pub bodies : list_all (is_body g) (blocks_claimed d numbers) ≡ true
+  pub none : has_none_past (used_with d numbers chunks) ≡ true
   pub whole : (is_file d.mode || has_no_hole (used_with d numbers chunks)) ≡ true
 
 pub parts : (g : Geometry) (i : ℕ) (d : Dinode) (numbers : List ℕ) (chunks : List (Option (List Slot)))
@@ -100,12 +101,17 @@ parts g i d numbers chunks right =
     let three = and_parts _ _ four.0 in
     let two = and_parts _ _ three.0 in
     let one = and_parts _ _ two.0 in
-    record { size = one.0; bodies = sym (bodies-claims_in g i d numbers chunks) ∙ one.1; whole = three.1 }
+    record { size = one.0; bodies = sym (bodies-claims_in g i d numbers chunks) ∙ one.1; none = two.1; whole = three.1 }
 
 -- each block that is claimed is a body block
 pub bodies_of_fields : (g : Geometry) (i : ℕ) (d : Dinode) (numbers : List ℕ) (chunks : List (Option (List Slot)))
     → has_right_fields g i (used_with d numbers chunks) ≡ true → All (λ b. is_body g b ≡ true) (blocks_claimed d numbers)
 bodies_of_fields g i d numbers chunks right = AllPass-from_list_all (is_body g) (blocks_claimed d numbers) (parts g i d numbers chunks right).bodies
+
+-- and it is claimed below the size
+pub below_of_fields : (g : Geometry) (i : ℕ) (d : Dinode) (numbers : List ℕ) (chunks : List (Option (List Slot)))
+    → has_right_fields g i (used_with d numbers chunks) ≡ true → blocks_claimed d (take (size_in_blocks d.size) numbers) ≡ blocks_claimed d numbers
+below_of_fields g i d numbers chunks right = blocks_claimed-take d numbers chunks (parts g i d numbers chunks right).none
 
 -- a mode of one type isn't of another
 not_of_type : (type other mode : ℕ) → type + 0x1ff < other → has_type type mode ≡ true → has_type other mode ≡ false
@@ -168,6 +174,7 @@ readable_of_fields g i d numbers chunks right directory =
     record {
       chunks = size.0;
       most = size.1;
+      fits = fits;
       held = λ k below. held_at (size_in_blocks d.size) numbers k whole.0 whole.1 below;
       bodies = λ k below.
           body_at g d numbers k has.bodies (omega (arith, fits)) (held_at (size_in_blocks d.size) numbers k whole.0 whole.1 below);

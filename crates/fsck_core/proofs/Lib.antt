@@ -17,6 +17,8 @@ pub mod Nonzero
 pub mod PlacedDirectories
 pub mod RecordLoops
 pub mod RecordSteps
+pub mod RisingNames
 pub mod StoreSteps
 pub mod SurveySteps
 pub mod SurveyTold
+pub mod WithZeros

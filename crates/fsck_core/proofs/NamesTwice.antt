@@ -13,7 +13,7 @@ use Rattle.volume_model.specs.Sound.{has_twice}
 use Rattle.fsck_core.specs.Slots.{used_slots}
 
 -- the order of names finds the same ones equal
-same_name : (xs ys : List ℕ) → is_eq (slice_cmp nat_cmp xs ys) ≡ bytes_eq xs ys
+pub same_name : (xs ys : List ℕ) → is_eq (slice_cmp nat_cmp xs ys) ≡ bytes_eq xs ys
 same_name xs ys = same_from_slice_cmp nat_cmp is_eq bytes_eq refl (λ _ _. refl) (λ _ _. refl) (λ x y r s o h. grind (arith, nat_tests)) xs ys (slice_cmp nat_cmp xs ys) refl
 
 -- the set of names finds this one
@@ -40,7 +40,7 @@ regrouped false false true d = refl
 regrouped false false false d = refl
 
 -- one slot more
-twice_more : (slots : List Slot) (s : Slot) → has_twice (slots ++ s ∷ []) ≡ (has_twice slots || is_named_among slots s.name)
+pub twice_more : (slots : List Slot) (s : Slot) → has_twice (slots ++ s ∷ []) ≡ (has_twice slots || is_named_among slots s.name)
 twice_more [] s = refl
 twice_more (x ∷ xs) s =
     let named : Slot → Bool = λ t. bytes_eq x.name t.name in

@@ -285,7 +285,7 @@ pub few_inodes : (g : Geometry) → IsGeometry g → inodes_of g ≤ 65536
 few_inodes g is = omega (arith, mul-le-mul_left g.groups is.ipg_high, is.groups_high)
 
 pub room_more : (g : Geometry) (i : ℕ) (numbers : List ℕ) (s t : Survey) (claims : Claims) → HasRoom g i s → t.claims ≡ claims
-    → length claims.bits.items ≡ length s.claims.bits.items → claims.count ≤ s.claims.count + length numbers + 1 → length numbers ≡ 1036
+    → length claims.bits.items ≡ length s.claims.bits.items → claims.count ≤ s.claims.count + length numbers + 1 → length numbers ≤ 1036
     → HasSizes (inodes_of g) t.names → HasRoom g (i + 1) t
 room_more g i numbers s t claims room same bits count size sizes = record {
   blocks = omega (arith, room.blocks, bits, ap (λ (c : Claims). length c.bits.items) same);

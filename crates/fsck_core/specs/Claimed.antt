@@ -1,5 +1,5 @@
 -- What a check finds in the numbers of an inode, and what it keeps of the blocks that inodes claim.
-use Rattle.std.specs.Prelude.{◌≡◌, ◌≢◌, ◌<◌, ◌≤◌, ℕ, ◌*◌, ◌%◌, ◌==◌, nat_le, true, not, List, ◌∷◌, length, slice_index, find, Option}
+use Rattle.std.specs.Prelude.{◌≡◌, ◌≢◌, ◌<◌, ◌≤◌, ℕ, ◌-◌, ◌*◌, ◌%◌, ◌==◌, nat_le, true, not, List, ◌∷◌, ◌++◌, length, replicate, slice_index, find, Option}
 use Rattle.std.specs.List.{filter, list_any, count_by, range_with_len}
 use Rattle.lufs_base.specs.declared.geometry.Geometry.{Geometry}
 use Rattle.volume_model.specs.declared.inode.Dinode.{Dinode}
@@ -11,6 +11,10 @@ use Rattle.fsck_core.specs.declared.claims.Claims.{Claims}
 -- An inode in use, with these block numbers by index and these chunks.
 abbrev pub used_with : Dinode → (numbers : List ℕ) → (chunks : List (Option (List Slot))) → UsedInode
 used_with d numbers chunks = record { inode = d; pointers = named_pointers d; numbers = numbers; chunks = chunks }
+
+-- these numbers, and zeros at the indexes after them
+abbrev pub with_zeros : (numbers : List ℕ) → List ℕ
+with_zeros numbers = numbers ++ replicate (1036 - length numbers) 0
 
 -- those of these numbers that aren't 0
 abbrev pub nonzero : List ℕ → List ℕ
@@ -26,6 +30,7 @@ blocks_claimed d numbers = nonzero (slice_index d.indirect 0 ∷ numbers)
 pub record IsReadable (g : Geometry) (d : Dinode) (numbers : List ℕ) : Type 0 where
   pub chunks : d.size % 512 ≡ 0
   pub most : d.size ≤ 4096 * 256
+  pub fits : size_in_blocks d.size ≤ length numbers
   pub held : (k : ℕ) → k < size_in_blocks d.size → slice_index numbers k ≢ 0
   pub bodies : (k : ℕ) → k < size_in_blocks d.size → is_body g (slice_index numbers k) ≡ true
 

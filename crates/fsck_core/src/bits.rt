@@ -1,4 +1,4 @@
-// The bits of the groups, and their counts.
+//! The bits of the groups, and their counts.
 ghost use Rattle.std.specs.Prelude.{◌≡◌, ◌<◌, ◌≤◌, ◌*◌, ◌^◌, [], length, map, is_some};
 ghost use Rattle.std.specs.List.{count_by};
 ghost use Rattle.lufs_base.specs.Layout.{IsGeometry, group_start, blocks_of};

@@ -1,3 +1,4 @@
+//! Which blocks are claimed, how many claims there are, and the lowest block that is claimed twice.
 ghost use Rattle.std.specs.Prelude.{◌≡◌, ◌≢◌, ◌<◌, ◌≤◌, ℕ, ◌+◌, ◌*◌, ◌^◌, min, List, [], ◌∷◌, ◌++◌, All, length, IfOk};
 ghost use Rattle.std.specs.Option.{option_map_or};
 ghost use Rattle.volume_model.specs.Format.{bit_at};

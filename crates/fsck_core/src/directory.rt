@@ -1,4 +1,4 @@
-// The slots of a directory, read from a store.
+//! The slots of a directory, read from a store.
 ghost use Rattle.std.specs.Prelude.{◌≡◌, ◌≤◌, ◌<◌, ℕ, ◌+◌, ◌*◌, ◌/◌, ◌++◌, map, length, slice_index, option_map, IfOk, IfSome, IsErrOf};
 ghost use Rattle.std.specs.Bool.{OnTrue};
 ghost use Rattle.std.specs.List.{list_all, range_with_len};
@@ -55,7 +55,7 @@ pub(crate) fn read_slots<S: MetaRead>(
     numbers: &[u32],
 ) -> Result<Option<Vec<Slot>>, StoreError>
     requires size { d.now.size ≤ 4096 * 256 }
-    requires numbers { length numbers.now ≡ 1036 }
+    requires numbers { (d.now.size + 4095) / 4096 ≤ length numbers.now }
     requires inside { (k : ℕ) → k < (d.now.size + 4095) / 4096 → (0 < slice_index numbers.now k) × (slice_index numbers.now k < blocks_of (S.store store.old).geometry) }
     ensures slots { IfSome (S.store store.old).content (λ image. IfOk result (λ found. AreSlots (map (chunk_at (block image) numbers.now) (range_with_len 0 (d.now.size / 512))) (option_map (λ v. v.items) found))) }
     ensures unchanged { IsUnchanged (S.store store.old) (S.store store.new) }

@@ -1,4 +1,5 @@
-ghost use Rattle.std.specs.Prelude.{◌≡◌, ◌≢◌, ◌<◌, ◌≤◌, ℕ, ◌*◌, ◌==◌, ◌&&◌, ◌||◌, true, not, List, Option, All, IsTrue, length};
+//! Whether the links, the size and the block numbers of an inode are right.
+ghost use Rattle.std.specs.Prelude.{◌≡◌, ◌≢◌, ◌<◌, ◌≤◌, ℕ, ◌*◌, ◌==◌, ◌&&◌, ◌||◌, true, not, List, Option, All, IsTrue, length, take, drop};
 ghost use Rattle.std.specs.List.{count_by, list_all};
 ghost use Rattle.lufs_base.specs.Fields.{are_zeros};
 ghost use Rattle.lufs_base.specs.Layout.{IsGeometry};
@@ -13,12 +14,15 @@ use lufs_base::{BlockNo, Geometry, Region};
 use volume_model::Dinode;
 
 /// Whether the links, the size and the block numbers of an inode are right, whose numbers by index are these.
+/// Past their end it has none.
 pub(crate) fn has_right_fields(g: &Geometry, d: &Dinode, numbers: &[u32]) -> bool
     requires geometry { IsGeometry g.now }
-    requires numbers { length numbers.now ≡ 1036 }
+    requires numbers { length numbers.now ≤ 1036 }
     ensures value { (i : ℕ) (chunks : List (Option (List Slot))) → result ≡ has_right_fields g.now i (record { inode = d.now; pointers = named_pointers d.now; numbers = numbers.now; chunks = chunks }) }
     ensures bodies { IsTrue result → All (λ b. is_body g.now b ≡ true) (blocks_claimed d.now numbers.now) }
     ensures directory { IsTrue result → is_directory d.now.mode ≡ true → IsReadable g.now d.now numbers.now }
+    ensures size { IsTrue result → d.now.size ≤ 4096 * 1036 }
+    ensures below { IsTrue result → blocks_claimed d.now (take (size_in_blocks d.now.size) numbers.now) ≡ blocks_claimed d.now numbers.now }
 {
     has_right_links(d) && has_right_numbers(g, d, numbers)
 }
@@ -32,8 +36,9 @@ fn has_right_links(d: &Dinode) -> bool
 /// Whether the size, the numbers of blocks and their count are right.
 fn has_right_numbers(g: &Geometry, d: &Dinode, numbers: &[u32]) -> bool
     requires geometry { IsGeometry g.now }
-    requires numbers { length numbers.now ≡ 1036 }
-    ensures { (i : ℕ) (chunks : List (Option (List Slot))) → result ≡ has_right_numbers g.now i (used_with d.now numbers.now chunks) }
+    requires numbers { length numbers.now ≤ 1036 }
+    ensures value { (i : ℕ) (chunks : List (Option (List Slot))) → result ≡ has_right_numbers g.now i (used_with d.now numbers.now chunks) }
+    ensures size { IsTrue result → d.now.size ≤ 4096 * 1036 }
 {
     if !has_right_size(d) {
         return false;
@@ -42,8 +47,7 @@ fn has_right_numbers(g: &Geometry, d: &Dinode, numbers: &[u32]) -> bool
         return false;
     }
     // Now nothing is claimed past the size, and only the numbers below it are left to look at.
-    let below = &numbers[..size_in_blocks(d.size)];
-    has_no_wrong_hole(d, numbers) && has_right_claims(g, d, below)
+    has_no_wrong_hole(d, numbers) && has_right_claims(g, d, below_size(d, numbers))
 }
 
 fn has_right_size(d: &Dinode) -> bool
@@ -64,14 +68,29 @@ fn size_in_blocks(size: u64) -> usize
     ((size + 4095) / 4096) as usize
 }
 
+/// The numbers at the indexes below the size, as far as there are any.
+pub(crate) fn below_size<'a>(d: &Dinode, numbers: &'a [u32]) -> &'a [u32]
+    requires { d.now.size ≤ 4096 * 1036 }
+    ensures value { result.now ≡ take (size_in_blocks d.now.size) numbers.now }
+    ensures most { length result.now ≤ length numbers.now }
+{
+    &numbers[..size_in_blocks(d.size).min(numbers.len())]
+}
+
+/// The numbers at the indexes past the size.
+fn past_size<'a>(d: &Dinode, numbers: &'a [u32]) -> &'a [u32]
+    requires { d.now.size ≤ 4096 * 1036 }
+    ensures { result.now ≡ drop (size_in_blocks d.now.size) numbers.now }
+{
+    &numbers[size_in_blocks(d.size).min(numbers.len())..]
+}
+
 /// Whether no block is claimed past the size, nor a pointer block where the direct ones have room for the size.
 fn has_none_past(d: &Dinode, numbers: &[u32]) -> bool
-    requires size { d.now.size ≤ 4096 * 1036 }
-    requires numbers { length numbers.now ≡ 1036 }
+    requires { d.now.size ≤ 4096 * 1036 }
     ensures { (chunks : List (Option (List Slot))) → result ≡ has_none_past (used_with d.now numbers.now chunks) }
 {
-    let end = size_in_blocks(d.size);
-    are_zeros(&numbers[end..]) && (d.indirect[0] == 0 || 12 < end)
+    are_zeros(past_size(d, numbers)) && (d.indirect[0] == 0 || 12 < size_in_blocks(d.size))
 }
 
 fn are_zeros(numbers: &[u32]) -> bool
@@ -82,8 +101,7 @@ fn are_zeros(numbers: &[u32]) -> bool
 
 /// Whether the inode may have the holes that it has: a file may have any.
 fn has_no_wrong_hole(d: &Dinode, numbers: &[u32]) -> bool
-    requires size { d.now.size ≤ 4096 * 1036 }
-    requires numbers { length numbers.now ≡ 1036 }
+    requires { d.now.size ≤ 4096 * 1036 }
     ensures { (chunks : List (Option (List Slot))) → result ≡ (is_file d.now.mode || has_no_hole (used_with d.now numbers.now chunks)) }
 {
     is_file(d.mode) || has_no_hole(d, numbers)
@@ -91,11 +109,10 @@ fn has_no_wrong_hole(d: &Dinode, numbers: &[u32]) -> bool
 
 /// Whether there is a block at each index below the size.
 fn has_no_hole(d: &Dinode, numbers: &[u32]) -> bool
-    requires size { d.now.size ≤ 4096 * 1036 }
-    requires numbers { length numbers.now ≡ 1036 }
+    requires { d.now.size ≤ 4096 * 1036 }
     ensures { (chunks : List (Option (List Slot))) → result ≡ has_no_hole (used_with d.now numbers.now chunks) }
 {
-    have_no_zero(&numbers[..size_in_blocks(d.size)])
+    size_in_blocks(d.size) <= numbers.len() && have_no_zero(below_size(d, numbers))
 }
 
 fn have_no_zero(numbers: &[u32]) -> bool

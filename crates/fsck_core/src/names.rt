@@ -1,3 +1,4 @@
+//! What the names of directories say of each inode: its links, who names it, and what is above it.
 ghost use Rattle.std.specs.Prelude.{◌≡◌, ◌<◌, ◌+◌, ℕ, IfOk};
 ghost use Rattle.volume_model.specs.Sound.{Names, slots_at};
 ghost use Rattle.fsck_core.specs.NameTables.{with_namer, is_dot, with_parent, with_link, with_name, HasSizes, HasNames};

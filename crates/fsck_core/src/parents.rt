@@ -1,4 +1,5 @@
-ghost use Rattle.std.specs.Prelude.{◌≡◌, ◌<◌, ◌^◌, ℕ, map, length, slice_get, slice_index, slice_index_or, slice_set, min, find, None, IfOk};
+//! Whether each directory has its place in the tree, and each inode its links.
+ghost use Rattle.std.specs.Prelude.{◌≡◌, ◌<◌, ◌^◌, ℕ, map, length, slice_get, slice_index, slice_index_or, slice_set, min, find, None, IfOk, IsTrue};
 ghost use Rattle.std.specs.List.{range_with_len};
 ghost use Rattle.std.specs.Option.{option_flatten, option_map};
 ghost use Rattle.volume_model.specs.Sound.{Names, Reading, inodes_in, used_at, names_in_reading, is_directory_in, parent_at, has_bad_parent, has_bad_links};
@@ -101,7 +102,7 @@ fn steps_up(alloc: Global, parents: &[u32]) -> Result<Vec<u32>, Mem>
 }
 
 // The inode to which so many steps up lead from each. A pass doubles the length of a step, so that few are
-// needed.
+// needed; where that changes no step, one leads as far as all that are left.
 fn far_above(alloc: Global, above: &[u32], steps: u32) -> Result<Vec<u32>, Mem>
     requires { length above.now < 2 ^ 32 }
     ensures { IfOk result (λ far. LeadsUp above.now steps far.items) }
@@ -110,13 +111,24 @@ fn far_above(alloc: Global, above: &[u32], steps: u32) -> Result<Vec<u32>, Mem>
     let mut step = Vec::from_slice(alloc, above)?;
     let mut left = steps;
     while left != 0 {
+        let twice = composed(alloc, &step, &step)?;
+        if are_same(&twice, &step) {
+            return composed(alloc, &far, &step);
+        }
         if left % 2 == 1 {
             far = composed(alloc, &far, &step)?;
         }
-        step = composed(alloc, &step, &step)?;
+        step = twice;
         left /= 2;
     }
     Ok(far)
+}
+
+// Whether both lists are the same.
+fn are_same(first: &[u32], second: &[u32]) -> bool
+    ensures { IsTrue result → first.now ≡ second.now }
+{
+    first == second
 }
 
 // For each number of the first list what the second one has at that place, and 0 past its end.

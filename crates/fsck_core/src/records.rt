@@ -1,6 +1,6 @@
-// The records of the groups and of the inodes.
-ghost use Rattle.std.specs.Prelude.{◌≡◌, ◌<◌, [], length, Some, None, IfSome, IfOk, IsErrOf, option_map};
-ghost use Rattle.volume_model.specs.Format.{block, inodes_of};
+//! The records of the groups and of the inodes.
+ghost use Rattle.std.specs.Prelude.{◌≡◌, ◌<◌, [], length, Some, None, IfSome, IfOk, IsErrOf, IsTrue, replicate, option_map};
+ghost use Rattle.volume_model.specs.Format.{block, dinode_of, inodes_of};
 ghost use Rattle.volume_model.specs.declared.finding.Kind.TheVariants.{Group as of_groups};
 ghost use Rattle.volume_model.specs.Sound.{reading_of, group_at, inode_at, first_of_kind};
 ghost use Rattle.sector_disk.specs.Disk.{CountsFailure, FailsJustAt};
@@ -19,6 +19,9 @@ use lufs_base::{BLOCK, DiskFault, Ino};
 use meta_store::MetaRead;
 use std::alloc::Global;
 use volume_model::{Dinode, Kind};
+
+// The bytes of the record of an inode.
+const RECORD: usize = 128;
 
 // The record of group n, if there is one.
 fn group_record<S: MetaRead>(store: &mut S, n: u32) -> Result<Option<Group>, DiskFault>
@@ -51,6 +54,24 @@ pub(crate) fn read_groups<S: MetaRead>(alloc: Global, store: &mut S) -> Result<V
     Ok(groups)
 }
 
+// Whether all of a record is zeros, as that of an inode that isn't in use is. Whole words of it are compared.
+fn is_free(bytes: &[u8]) -> bool
+    ensures { IsTrue result → bytes.now ≡ replicate 128 0 }
+{
+    bytes == [0; RECORD].as_slice()
+}
+
+// What these bytes of a record say, if they are one.
+fn read_record(version: u32, bytes: &[u8]) -> Option<Option<Dinode>>
+    requires { length bytes.now ≡ 128 }
+    ensures { result ≡ dinode_of version bytes.now }
+{
+    if is_free(bytes) {
+        return Some(None);
+    }
+    read_dinode(version, bytes).ok()
+}
+
 // What the record of inode i says, if it is one.
 fn inode_record<S: MetaRead>(
     store: &mut S,
@@ -68,7 +89,7 @@ fn inode_record<S: MetaRead>(
     let place = g.inode_place(Ino(i));
     window.show(store, (place / BLOCK as u64) as u32)?;
     let at = (place % BLOCK as u64) as usize;
-    Ok(read_dinode(g.version, &window.bytes[at..at + 128]).ok())
+    Ok(read_record(g.version, &window.bytes[at..at + RECORD]))
 }
 
 // What the record of inode i says, where it may say so: the inodes 0 and 1 are never in use.

@@ -1,4 +1,4 @@
-// Why a check ends early: a rule is broken, or there is no reading on.
+//! Why a check ends early: a rule is broken, or there is no reading on.
 ghost use Rattle.std.specs.Prelude.{◌≡◌};
 ghost use Rattle.fsck_core.specs.Answers.{unless_found};
 

@@ -1,5 +1,5 @@
-// The walk over the inodes: their fields, the blocks that they claim, and the names in directories.
-ghost use Rattle.std.specs.Prelude.{◌≡◌, ◌<◌, ◌+◌, ◌&&◌, if◌then◌else◌, ℕ, true, length, slice_get, is_none, Some, None, IfSome, IfOk, OnOk, IsErrOf};
+//! The walk over the inodes: their fields, the blocks that they claim, and the names in directories.
+ghost use Rattle.std.specs.Prelude.{◌≡◌, ◌<◌, ◌≤◌, ◌+◌, ◌&&◌, if◌then◌else◌, ℕ, true, length, slice_get, is_none, Some, None, IfSome, IfOk, OnOk, IsErrOf};
 ghost use Rattle.std.specs.Option.{option_or};
 ghost use Rattle.lufs_base.specs.Layout.{IsGeometry};
 ghost use Rattle.volume_model.specs.Format.{block, inodes_of, is_directory};
@@ -9,14 +9,14 @@ ghost use Rattle.meta_store.specs.Store.{IsUnchanged};
 ghost use Rattle.meta_store.specs.declared.error.StoreError.TheVariants.{Disk};
 ghost use Rattle.fsck_core.specs.declared.stop.Stop.TheVariants.{Failed};
 ghost use Rattle.fsck_core.specs.Answers.{IsPart, IsPartOf};
-ghost use Rattle.fsck_core.specs.Claimed.{IsReadable};
+ghost use Rattle.fsck_core.specs.Claimed.{IsReadable, with_zeros};
 ghost use Rattle.fsck_core.specs.NameTables.{HasSizes};
 ghost use Rattle.fsck_core.specs.Slots.{unused_named};
 ghost use Rattle.fsck_core.specs.Survey.{HasSeenNames, IsSurvey, HasRoom, Knows, AreSlotsOf};
 
 use crate::claims::Claims;
 use crate::directory::read_slots;
-use crate::fields::{has_right_fields, is_none_or_body};
+use crate::fields::{below_size, has_right_fields, is_body};
 use crate::names::NameTables;
 use crate::numbers::{NUMBERS, read_numbers};
 use crate::slots::{are_right, names_unused};
@@ -111,8 +111,7 @@ fn look_at_names<S: MetaRead>(
     requires size { length inodes.now ≡ inodes_of (S.store store.old).geometry }
     requires known { IfSome (S.store store.old).content (λ image. Knows (S.store store.old).geometry (block image) inodes.now) }
     requires here { slice_get inodes.now i ≡ Some (Some d.now) }
-    requires numbers { length numbers.now ≡ 1036 }
-    requires read { IfSome (S.store store.old).content (λ image. numbers.now ≡ numbers_of (block image) d.now) }
+    requires read { IfSome (S.store store.old).content (λ image. with_zeros numbers.now ≡ numbers_of (block image) d.now) }
     requires readable { is_directory d.now.mode ≡ true → IsReadable (S.store store.old).geometry d.now numbers.now }
     ensures names { IfSome (S.store store.old).content (λ image.
         survey.old.claims.twice ≡ None → HasSeenNames (inodes_of (S.store store.old).geometry) i (reading_of (S.store store.old).geometry (block image)) survey.old
@@ -135,6 +134,38 @@ fn look_at_names<S: MetaRead>(
             Ok(())
         }
     }
+}
+
+// Looks at inode i, which is in use and has these numbers by index, and none past their end.
+fn look_at_numbers<S: MetaRead>(
+    alloc: Global,
+    store: &mut S,
+    inodes: &[Option<Dinode>],
+    i: u32,
+    d: &Dinode,
+    numbers: &[u32],
+    survey: &mut Survey,
+) -> Result<(), Stop>
+    requires size { length inodes.now ≡ inodes_of (S.store store.old).geometry }
+    requires known { IfSome (S.store store.old).content (λ image. Knows (S.store store.old).geometry (block image) inodes.now) }
+    requires here { slice_get inodes.now i ≡ Some (Some d.now) }
+    requires numbers { length numbers.now ≤ 1036 }
+    requires read { IfSome (S.store store.old).content (λ image. with_zeros numbers.now ≡ numbers_of (block image) d.now) }
+    requires room { HasRoom (S.store store.old).geometry i survey.old }
+    ensures part { IfSome (S.store store.old).content (λ image.
+        IsSurvey (S.store store.old).geometry (reading_of (S.store store.old).geometry (block image)) i survey.old
+        → IsPart (S.store store.old).geometry (block image)
+        (λ _. IsSurvey (S.store store.old).geometry (reading_of (S.store store.old).geometry (block image)) (i + 1) survey.new) result) }
+    ensures room { OnOk result (HasRoom (S.store store.old).geometry (i + 1) survey.new) }
+    ensures unchanged { IsUnchanged (S.store store.old) (S.store store.new) }
+    ensures failure { FailsJustAt (IsErrOf result (Failed Disk)) (S.store store.old).disk (S.store store.new).disk }
+{
+    let g = *store.geometry();
+    if !has_right_fields(&g, d, numbers) {
+        return Err(Stop::Found(Kind::Fields, i));
+    }
+    survey.claims.claim_all(d, below_size(d, numbers));
+    Ok(look_at_names(alloc, store, inodes, i, d, numbers, survey)?)
 }
 
 // Looks at inode i, which is in use.
@@ -161,16 +192,15 @@ fn look_at_used<S: MetaRead>(
     ensures unchanged { IsUnchanged (S.store store.old) (S.store store.new) }
     ensures failure { FailsJustAt (IsErrOf result (Failed Disk)) (S.store store.old).disk (S.store store.new).disk }
 {
+    if d.indirect[0] == 0 {
+        return look_at_numbers(alloc, store, inodes, i, d, &d.direct, survey);
+    }
     let g = *store.geometry();
-    if !is_none_or_body(&g, d.indirect[0]) {
+    if !is_body(&g, d.indirect[0]) {
         return Err(Stop::Found(Kind::Fields, i));
     }
     read_numbers(alloc, store, d, numbers)?;
-    if !has_right_fields(&g, d, numbers) {
-        return Err(Stop::Found(Kind::Fields, i));
-    }
-    survey.claims.claim_all(d, numbers);
-    Ok(look_at_names(alloc, store, inodes, i, d, numbers, survey)?)
+    look_at_numbers(alloc, store, inodes, i, d, numbers, survey)
 }
 
 // Looks at inode i, if it is in use.

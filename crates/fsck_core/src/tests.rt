@@ -1,3 +1,4 @@
+//! Tests: volumes of 99 blocks, sound and with each rule broken, and reads that fail.
 ghost use Rattle.std.specs.Prelude.{◌≡◌, length, IfOk};
 
 use crate::check;

@@ -1,4 +1,4 @@
-// The types of inodes, by their modes.
+//! The types of inodes, by their modes.
 ghost use Rattle.std.specs.Prelude.{◌≡◌};
 ghost use Rattle.volume_model.specs.Format.{is_file, is_directory, is_link};
 

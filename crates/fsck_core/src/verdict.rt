@@ -1,4 +1,9 @@
-// The check as a whole: its rules in their order.
+//! The check as a whole: its rules in their order.
+//!
+//! It takes four passes. The first reads the record of each group, and the second the record of each inode. The
+//! third goes over the inodes in use: it looks at the fields of each, claims its blocks, and enters the names of a
+//! directory. Each of these ends the check at the first record or inode that breaks its rule. The fourth reads
+//! nothing more: it goes through the rules that are left, in their order, over what the others kept.
 ghost use Rattle.std.specs.Prelude.{◌≡◌, [], length, None, IsErrOf};
 ghost use Rattle.lufs_base.specs.declared.geometry.Geometry.{Geometry as IsOfGeometry};
 ghost use Rattle.lufs_base.specs.Layout.{IsGeometry};

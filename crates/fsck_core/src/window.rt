@@ -1,4 +1,4 @@
-// A window on a store: the block that was read last, which isn't read again.
+//! A window on a store: the block that was read last, which isn't read again.
 ghost use Rattle.std.specs.Prelude.{◌≡◌, ◌<◌, None, Some, OnOk};
 ghost use Rattle.lufs_base.specs.Layout.{blocks_of};
 ghost use Rattle.sector_disk.specs.Disk.{CountsFailure};

@@ -1,4 +1,4 @@
-use Rattle.std.proofs.Common.{◌+◌, ◌-◌, ◌%◌, arith}
+use Rattle.std.proofs.Common.{◌+◌, ◌-◌, ◌%◌, refl, arith}
 use Rattle.fsck_core.proofs.BlocksTold.{inode_told, inode_block_inside}
 use Rattle.fsck_core.proofs.records.inode_record.Goals as goal
 
@@ -10,5 +10,5 @@ show-requires-clause-inside g c =
 pub returns-clause-value : goal.returns-clause-value
 returns-clause-value g c =
     inode_told (g.S.MetaRead.store c.args.store.now).geometry c.geometry.result.now (g.S.MetaRead.store c.args.store.now).content c.args.i c.inode_place-place.result
-    ((c.inode_place-place.result % 4096 + 128) - c.inode_place-place.result % 4096) c.show.new.self.bytes c.show.new.self.number _ _ c.geometry.ensures.value c.inode_place-place.ensures c.in_ok-show.ensures.shown c.show.ensures.held c.ok.ensures.value
-    (omega arith) c.read_dinode.ensures.value
+    ((c.inode_place-place.result % 4096 + 128) - c.inode_place-place.result % 4096) c.show.new.self.bytes c.show.new.self.number _ _ c.geometry.ensures.value c.inode_place-place.ensures c.in_ok-show.ensures.shown c.show.ensures.held refl
+    (omega arith) c.read_record.ensures

@@ -2,8 +2,8 @@ use Rattle.std.proofs.Common.{◌≡◌, true, false, sym, ap, subst, ◌∙◌,
 use Rattle.volume_model.specs.Sound.{has_twice}
 use Rattle.fsck_core.specs.Slots.{used_slots}
 use Rattle.fsck_core.proofs.NamesTwice.{FindsNames, has_name, used_more, unused_more, names_more, once_more, found_twice, flipped}
-use Rattle.fsck_core.proofs.slots.has_twice.Goals as goal
-use Rattle.fsck_core.proofs.slots.has_twice.Goals.{else-slot-ne0-via-then-slot-ne0+in_ok-insert+else-not-branch, else-slot-ne0-via-else-slot-ne0}
+use Rattle.fsck_core.proofs.slots.finds_twice.Goals as goal
+use Rattle.fsck_core.proofs.slots.finds_twice.Goals.{else-slot-ne0-via-then-slot-ne0+in_ok-insert+else-not-branch, else-slot-ne0-via-else-slot-ne0}
 
 pub returns-then-not-branch : goal.returns-then-not-branch
 returns-then-not-branch c =
