@@ -1,0 +1,5 @@
+pub mod Hands
+pub mod Exchange
+pub mod Marks
+pub mod Plans
+pub mod Worked
