@@ -1,0 +1,14 @@
+pub mod Journals
+pub mod Versions
+pub mod LaidBlocks
+pub mod BlockRoles
+pub mod Batches
+pub mod Room
+pub mod SafeImages
+pub mod Kept
+pub mod Safety
+pub mod Recovery
+pub mod Changes
+pub mod Steps
+pub mod Mount
+pub mod Worked
