@@ -1,33 +1,59 @@
-#!/usr/bin/env bash
-# Makes the smallest volume in a file, checks it, and lists the transactions of its log, which has none
-# yet. It prints `made blocks 99 inodes 30 free 61 ring 255`, then `clean inodes 1 blocks 1 free 61`, and
-# at last `epoch 1 head 0 tid 1 ring 255` and `committed 0 sectors 0`.
+#!/bin/sh
+# Runs the examples of README.md in a new folder: makes, checks and lists an empty volume, and looks at three
+# volumes that a crash may leave. It takes the built program where there is one. Else rt try compiles one, with
+# no proof, and what the toolchain says goes to a file. What is printed is commands with their output, and lines
+# that begin with #.
 set -eu
 
-# Prints a command, and runs it.
-run() {
-    printf '$ %s\n' "$1"
-    eval "$1"
-}
-
-crate=$(cd "$(dirname "${BASH_SOURCE[0]}")/../crates/lufs" && pwd)
-if [ ! -x "$crate/out/lufs" ]; then
-    echo "# The program isn't built yet. rt proves the crates, builds it and runs it on an example."
-    echo "# The first time this takes minutes."
-    (
-        run "cd '$crate'"
-        run "rt run -- mkfs out/volume 1 64 32 256"
-    )
-fi
-PATH=$crate/out:$PATH
-
+examples=$(cd "$(dirname "$0")" && pwd)
+crate=$(cd "$examples/../crates/lufs" && pwd)
 folder=$(mktemp -d)
-trap 'rm -rf "$folder"' EXIT
+trap 'rm -rf "$folder"; exit 1' INT TERM
 cd "$folder"
 
-echo "# a volume of one group of 64 blocks and 32 inodes, with a log of 256 sectors"
-run "lufs mkfs volume 1 64 32 256"
-echo "# whether it is sound"
-run "lufs check volume"
-echo "# the committed transactions in its log"
-run "lufs scan volume"
+# What lufs is run with, a run a line.
+runs='mkfs volume 1 64 32 256
+check volume
+scan volume
+scan committed
+check committed
+scan cut
+check cut
+check unlogged'
+
+# One word a line, the volume with its folder: rt try runs the program in another one.
+words() {
+    # shellcheck disable=SC2086
+    printf '%s\n' $1 | sed "2s|^|$folder/|"
+}
+
+"$examples/crashed.sh"
+if [ -x "$crate/out/lufs" ]; then
+    echo "# the built program: $crate/out/lufs"
+    printf '%s\n' "$runs" | while read -r run; do
+        printf '\n$ lufs %s\n' "$run"
+        # shellcheck disable=SC2086
+        "$crate/out/lufs" $run || echo "# status $?"
+    done
+else
+    echo "# No program is built yet, so rt try compiles one without proof. That takes half a minute or more."
+    mkdir cases
+    number=10
+    printf '%s\n' "$runs" | while read -r run; do
+        number=$((number + 1))
+        : >"cases/$number"
+        words "$run" >"cases/$number.args"
+    done
+    if ! (cd "$crate" && rt try --cases "$folder/cases") >output 2>toolchain; then
+        echo "# rt try failed; what it said is in $folder/toolchain" >&2
+        exit 1
+    fi
+    number=10
+    printf '%s\n' "$runs" | while read -r run; do
+        number=$((number + 1))
+        printf '\n$ lufs %s\n' "$run"
+        awk -v name="== $number" '/^== / { on = $0 == name; next } on' output
+        sed -n "s/^case=$number .*status=\([1-9][0-9]*\) .*/# status \1/p" toolchain
+    done
+fi
+rm -rf "$folder"

@@ -5,9 +5,9 @@
 # It prints one line a check, `ok WHAT` or `FAILED WHAT`, or `skipped WHAT`, and exits with 1 if one
 # failed. It wants bash, python3 and timeout, and for the calls strace.
 #
-# Two programs on one volume at once: nothing stops them, since the program takes no lock, as a mkfs of
-# an image file mostly takes none. Their writes fall between one another. Two runs of mkfs with the same
-# numbers write the same bytes but for the moment, so what they leave is a volume; of other pairs
+# Two programs on one volume at the same time: nothing stops them, since the program takes no lock, and most
+# programs that make a file system in a file take none. Their writes are mixed. Two runs of mkfs with the same
+# numbers write the same bytes, except for the time in them, so what they leave is a volume. Of other pairs
 # nothing is promised.
 set -u
 
@@ -115,6 +115,15 @@ ends 'scan of it again' 0 \
 same 'scan writes nothing to the file' before bad
 ends 'check of it, with a log that makes the root wrong' 7 'unsound fields 2' check bad
 same 'check replays nothing into the file' before bad
+
+echo '# what a crash may leave, as the README shows it'
+"$crate/../../examples/crashed.sh"
+ends 'scan of a committed transaction' 0 \
+    $'epoch 1 head 0 tid 1 ring 255\ntx 1 sectors 3 deltas 3 bytes 1104\ncommitted 1 sectors 3' scan committed
+ends 'check of it, which is replayed' 0 'clean inodes 2 blocks 1 free 61' check committed
+ends 'scan of a transaction that is cut off' 0 "$empty" scan cut
+ends 'check of it' 0 "$clean" check cut
+ends 'check of a change without a log' 7 'unsound inodebit 3' check unlogged
 
 echo '# words'
 mkdir 'a folder'
@@ -286,7 +295,7 @@ open \"new\" O_RDWR
 end 3
 read 3 512 bytes at 8192
 read 3 512 bytes at 12288
-read 3 130560 bytes at 12800
+read 3 65536 bytes at 12800
 close 3
 print 52" "$(calls scan new)"
 # A volume of 200 files in two directories. Read are the superblock, the log's header and its ring, 64 group
