@@ -1,4 +1,4 @@
-// One bit of the record of a group, set or cleared.
+//! One bit of the record of a group, set or cleared.
 ghost use Rattle.std.specs.Prelude.{◌≡◌, ◌<◌, ◌≤◌, ℕ, ◌+◌, ◌*◌, ◌/◌, ◌^◌, Bool, true, false, List, length, ◌∷◌, Some};
 ghost use Rattle.lufs_base.specs.Fields.{AreBytes};
 ghost use Rattle.lufs_base.specs.Layout.{IsGeometry, group_start};

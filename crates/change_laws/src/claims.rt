@@ -1,4 +1,4 @@
-// What claims are while a plan is made.
+//! What claims are while a plan is made.
 ghost use Rattle.std.specs.Prelude.{◌≡◌, ◌≢◌, ◌<◌, ◌≤◌, ◌==◌, ℕ, ◌+◌, ◌/◌, true, false, List, Contains};
 ghost use Rattle.std.specs.List.{count_by};
 ghost use Rattle.lufs_base.specs.Layout.{IsGeometry, blocks_of, group_start, inode_address};

@@ -1,4 +1,4 @@
-// What an inode claims, exchanged with what is held.
+//! What an inode claims, exchanged with what is held.
 ghost use Rattle.std.specs.Prelude.{◌≡◌, ◌<◌, ℕ, List, ◌++◌};
 ghost use Rattle.lufs_base.specs.declared.geometry.Geometry.{Geometry};
 ghost use Rattle.volume_model.specs.declared.hand.Hand.{Hand};

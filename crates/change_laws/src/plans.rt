@@ -1,4 +1,4 @@
-// The parts of a sound volume, at the beginning and at the end of a plan.
+//! The parts of a sound volume, at the beginning and at the end of a plan.
 ghost use Rattle.std.specs.Prelude.{◌≡◌, List};
 ghost use Rattle.lufs_base.specs.declared.geometry.Geometry.{Geometry};
 ghost use Rattle.volume_model.specs.declared.hand.Hand.{Hand};

@@ -1,4 +1,4 @@
-// A chunk of a directory changes.
+//! A chunk of a directory changes.
 ghost use Rattle.std.specs.Prelude.{◌≡◌, ◌<◌, ℕ, ◌*◌, ◌/◌, ◌%◌, List, length, slice_index, slice_set, Some};
 ghost use Rattle.lufs_base.specs.declared.geometry.Geometry.{Geometry};
 ghost use Rattle.volume_model.specs.declared.hand.Hand.{Hand};

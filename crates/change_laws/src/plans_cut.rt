@@ -1,4 +1,4 @@
-// A file is cut: it loses the blocks past its new size, and these are held after.
+//! A file is cut: it loses the blocks past its new size, and these are held after.
 ghost use Rattle.std.specs.Prelude.{◌≡◌, ◌<◌, ◌≤◌, ◌==◌, ℕ, ◌+◌, ◌-◌, ◌*◌, ◌/◌, ◌++◌, [], List, length, take, drop, replicate, slice_index, Some, false};
 ghost use Rattle.lufs_base.specs.declared.geometry.Geometry.{Geometry};
 ghost use Rattle.volume_model.specs.declared.hand.Hand.{Hand};

@@ -1,4 +1,4 @@
-// A file gets another size, a held block at an index where it had none, and a held pointer block.
+//! A file gets another size, a held block at an index where it had none, and a held pointer block.
 ghost use Rattle.std.specs.Prelude.{◌≡◌, ◌<◌, ◌≤◌, ◌==◌, ℕ, ◌+◌, ◌-◌, ◌*◌, ◌/◌, ◌∷◌, ◌++◌, [], List, take, replicate, slice_index, slice_set, Some, None, false};
 ghost use Rattle.lufs_base.specs.Fields.{u32_at};
 ghost use Rattle.lufs_base.specs.declared.geometry.Geometry.{Geometry};

@@ -1,4 +1,4 @@
-// A directory gets one chunk more, after its last one: in the same block, or at the front of a block that was held.
+//! A directory gets one chunk more, after its last one: in the same block, or at the front of a block that was held.
 ghost use Rattle.std.specs.Prelude.{◌≡◌, ◌≢◌, ◌<◌, ◌==◌, ℕ, ◌+◌, ◌*◌, ◌%◌, ◌∷◌, ◌++◌, [], List, length, take, replicate, slice_index, slice_set, Some, false};
 ghost use Rattle.lufs_base.specs.Fields.{u32_at};
 ghost use Rattle.lufs_base.specs.declared.geometry.Geometry.{Geometry};

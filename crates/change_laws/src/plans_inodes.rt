@@ -1,4 +1,4 @@
-// A held inode is made, and an inode in use is freed.
+//! A held inode is made, and an inode in use is freed.
 ghost use Rattle.std.specs.Prelude.{◌≡◌, ◌≤◌, ℕ, ◌∷◌, [], List, take, Some, None, true};
 ghost use Rattle.lufs_base.specs.Layout.{IsGeometry};
 ghost use Rattle.lufs_base.specs.declared.geometry.Geometry.{Geometry};

@@ -1,4 +1,4 @@
-// The record of an inode in use gets other attributes and links.
+//! The record of an inode in use gets other attributes and links.
 ghost use Rattle.std.specs.Prelude.{◌≡◌, ℕ, List, Some};
 ghost use Rattle.lufs_base.specs.declared.geometry.Geometry.{Geometry};
 ghost use Rattle.volume_model.specs.declared.hand.Hand.{Hand};

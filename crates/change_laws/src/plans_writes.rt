@@ -1,4 +1,4 @@
-// Which writes change one inode alone, and what its new state keeps of a volume.
+//! Which writes change one inode alone, and what its new state keeps of a volume.
 ghost use Rattle.std.specs.Prelude.{◌≡◌, ◌<◌, ℕ, ◌/◌, ◌%◌, ◌++◌, List, Contains};
 ghost use Rattle.lufs_base.specs.Layout.{IsGeometry, inode_address};
 ghost use Rattle.lufs_base.specs.declared.geometry.Geometry.{Geometry};

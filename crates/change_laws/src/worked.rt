@@ -1,4 +1,4 @@
-// The definitions of changes, computed on a small volume.
+//! The definitions of changes, computed on a small volume.
 ghost use Rattle.std.specs.Prelude.{◌≡◌, ◌∷◌, [], Some, true, false};
 ghost use Rattle.volume_model.specs.Sound.{Unused, InUse, reading_of, used_inode};
 ghost use Rattle.volume_model.specs.Worked.{smallest, made, file, with_file, with_all, with_held_bits};

@@ -1,4 +1,4 @@
-// The definitions computed on small journals, so that a reader sees what they say.
+//! The definitions computed on small journals, so that a reader sees what they say.
 ghost use Rattle.std.specs.Prelude.{◌≡◌, ◌∷◌, ◌++◌, [], true, false, replicate, Some, None};
 ghost use Rattle.volume_model.specs.declared.device_call.DeviceCall.TheVariants.{Write};
 ghost use Rattle.volume_model.specs.Log.{Listed, WithHeader, log_with, header_bytes};

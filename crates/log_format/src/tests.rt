@@ -1,3 +1,4 @@
+//! Readers and writers of the log, at the limits of each row, with bytes from the format.
 ghost use Rattle.std.specs.Prelude.{◌≡◌, ◌≤◌, ◌*◌, length};
 ghost use Rattle.volume_model.specs.Log.{delta_bytes};
 

@@ -1,4 +1,4 @@
-// The laws of a log on a disk that crashes, by what was written since the last flush.
+//! The laws of a log on a disk that crashes, by what was written since the last flush.
 ghost use Rattle.std.specs.Prelude.{◌≡◌, ◌⊎◌, ◌<◌, ℕ, List, [], ◌∷◌, ◌++◌, take, Contains};
 ghost use Rattle.lufs_base.specs.Layout.{ring_of, header_sector, ring_place};
 ghost use Rattle.lufs_base.specs.declared.geometry.Geometry.{Geometry};

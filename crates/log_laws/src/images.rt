@@ -1,4 +1,4 @@
-// The laws of a log on an image, whose writes a crash may cut: each sector is old, or new.
+//! The laws of a log on an image, whose writes a crash may cut: each sector is old, or new.
 ghost use Rattle.std.specs.Prelude.{◌≡◌, ◌⊎◌, ◌<◌, ◌≤◌, ℕ, ◌+◌, ◌*◌, ◌%◌, List, [], ◌∷◌, ◌++◌, length, Some};
 ghost use Rattle.lufs_base.specs.Layout.{IsGeometry, ring_of, header_sector, ring_place};
 ghost use Rattle.lufs_base.specs.declared.geometry.Geometry.{Geometry};

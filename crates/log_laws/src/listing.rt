@@ -1,4 +1,4 @@
-// The laws of what a mount lists.
+//! The laws of what a mount lists.
 ghost use Rattle.std.specs.Prelude.{◌≡◌, ◌<◌, ◌≤◌, ℕ, suc, ◌+◌, ◌^◌, List, length, Some, All};
 ghost use Rattle.lufs_base.specs.Layout.{ring_of, header_sector};
 ghost use Rattle.lufs_base.specs.declared.geometry.Geometry.{Geometry};

@@ -1,4 +1,4 @@
-// The laws of what is read of the log: what is written is read back.
+//! The laws of what is read of the log: what is written is read back.
 ghost use Rattle.std.specs.Prelude.{◌≡◌, ◌<◌, ◌*◌, ◌^◌, ℕ, List, length, Some, true, All};
 ghost use Rattle.lufs_base.specs.Fields.{AreBytes};
 ghost use Rattle.lufs_base.specs.Layout.{IsGeometry};

@@ -1,4 +1,4 @@
-// The laws of a journal's steps: they keep its ring, in the present image and in each that a crash may leave.
+//! The laws of a journal's steps: they keep its ring, in the present image and in each that a crash may leave.
 ghost use Rattle.std.specs.Prelude.{◌≡◌, ◌⊎◌, ◌<◌, ◌≤◌, ℕ, ◌+◌, ◌%◌, ◌^◌, List, [], ◌∷◌, ◌++◌, length};
 ghost use Rattle.lufs_base.specs.Layout.{IsGeometry, ring_of};
 ghost use Rattle.lufs_base.specs.declared.geometry.Geometry.{Geometry};

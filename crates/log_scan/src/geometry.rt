@@ -1,3 +1,4 @@
+//! Reads the superblock of a volume, and the geometry in it.
 ghost use Rattle.std.specs.Prelude.{◌≡◌, ◌≤◌, ◌*◌, IfSome, IfOk, IsErrOf};
 ghost use Rattle.lufs_base.specs.Layout.{IsGeometry, blocks_of};
 ghost use Rattle.volume_model.specs.Format.{geometry_of};

@@ -1,3 +1,4 @@
+//! Logs of each kind, cut, wrapped and largest, read and listed.
 use crate::{GeometryError, ScanError, list, read_geometry, scan};
 use lufs_base::{Geometry, Mem, put_u32};
 use sector_disk::{Disk, Fail, MemDisk};

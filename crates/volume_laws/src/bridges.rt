@@ -1,4 +1,4 @@
-// What the record of an inode in use says, by its node in the tree: equations between the two.
+//! What the record of an inode in use says, by its node in the tree: equations between the two.
 ghost use Rattle.std.specs.Prelude.{◌≡◌, ℕ, Some, None, IsSomeAnd, List, map, true};
 ghost use Rattle.lufs_base.specs.declared.geometry.Geometry.{Geometry};
 ghost use Rattle.volume_model.specs.declared.hand.Hand.{Hand};

@@ -1,4 +1,4 @@
-// The bytes of one record or chunk change, and one entry of the reading and of the tree; or bytes that nothing reads.
+//! The bytes of one record or chunk change, and one entry of the reading and of the tree; or bytes that nothing reads.
 ghost use Rattle.std.specs.Prelude.{◌≡◌, ◌<◌, ◌≤◌, ◌==◌, ℕ, ◌+◌, ◌*◌, ◌/◌, ◌%◌, List, length, take, drop, slice_index, Some, true, false, option_map};
 ghost use Rattle.lufs_base.specs.Fields.{AreBytes};
 ghost use Rattle.lufs_base.specs.Layout.{IsGeometry, blocks_of, group_start, inode_address};

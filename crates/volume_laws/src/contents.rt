@@ -1,4 +1,4 @@
-// Bytes that users wrote change: the text of a link, or the bytes of a file.
+//! Bytes that users wrote change: the text of a link, or the bytes of a file.
 ghost use Rattle.std.specs.Prelude.{◌≡◌, ◌==◌, ℕ, slice_index, Some, true, false};
 ghost use Rattle.lufs_base.specs.Layout.{IsGeometry};
 ghost use Rattle.lufs_base.specs.declared.geometry.Geometry.{Geometry};

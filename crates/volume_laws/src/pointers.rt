@@ -1,4 +1,4 @@
-// Numbers of a pointer block change, and these numbers of its inode.
+//! Numbers of a pointer block change, and these numbers of its inode.
 ghost use Rattle.std.specs.Prelude.{◌≡◌, ◌<◌, ◌≤◌, ◌==◌, ℕ, ◌+◌, ◌*◌, length, take, drop, slice_index, Some, true, false};
 ghost use Rattle.lufs_base.specs.Fields.{u32_at};
 ghost use Rattle.lufs_base.specs.Layout.{IsGeometry};

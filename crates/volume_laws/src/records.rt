@@ -1,4 +1,4 @@
-// The laws of the records of groups and of inodes: a record and its bytes determine each other.
+//! The laws of the records of groups and of inodes: a record and its bytes determine each other.
 ghost use Rattle.std.specs.Prelude.{◌≡◌, ℕ, List, length, Option, Some, None};
 ghost use Rattle.lufs_base.specs.Fields.{AreBytes};
 ghost use Rattle.lufs_base.specs.Layout.{IsGeometry};

@@ -1,4 +1,4 @@
-// The laws of what sound means, and of the tree that a volume stands for.
+//! The laws of what sound means, and of the tree that a volume stands for.
 ghost use Rattle.std.specs.Prelude.{◌≡◌, ◌≤◌, ◌<◌, ◌↔◌, ℕ, ◌+◌, ◌*◌, ◌∷◌, ◌++◌, [], List, length, Some, None, true, false, Contains};
 ghost use Rattle.lufs_base.specs.Fields.{AreBytes};
 ghost use Rattle.lufs_base.specs.Layout.{IsGeometry, blocks_of};
