@@ -1,5 +1,5 @@
 -- The bits of body blocks depend on the group records alone.
-use Rattle.std.proofs.Common.{◌≡◌, ◌<◌, ◌≤◌, ℕ, ◌+◌, ◌-◌, ◌*◌, ◌/◌, ◌%◌, Bool, true, false, not, ◌&&◌, List, length, take, drop, map, Option, Some, None, refl, sym, ap, ◌∙◌, inl, inr, arith}
+use Rattle.std.proofs.Common.{◌≡◌, ◌<◌, ℕ, ◌+◌, ◌-◌, ◌*◌, ◌/◌, ◌%◌, Bool, true, false, not, ◌&&◌, List, length, take, drop, map, Option, Some, sym, ap, ◌∙◌, inl, inr, arith}
 use Rattle.std.specs.Prelude.{slice_get, option_map, nat_lt}
 use Rattle.std.specs.List.{range_with_len}
 use Rattle.std.specs.Option.{option_flatten, option_map_or}
@@ -14,7 +14,7 @@ use Rattle.lufs_base.specs.declared.geometry.Region.{Region}
 use Rattle.lufs_base.specs.declared.geometry.Region.TheVariants.{GroupBlock}
 use Rattle.lufs_base.proofs.Places.{only_region, group_fits}
 use Rattle.volume_model.specs.Format.{Image, Blocks, block, is_body, is_body_region, GroupRecord, bit_at, group_of}
-use Rattle.volume_model.specs.Sound.{reading_of, group_at, record_at, block_bit}
+use Rattle.volume_model.specs.Sound.{reading_of, group_at, block_bit}
 use Rattle.meta_store.specs.Plain.{is_free}
 
 entry_of_range : {X : Type 0} (f : ℕ → X) (n i : ℕ) → i < n → slice_get (map f (range_with_len 0 n)) i ≡ Some (f i)

@@ -1,7 +1,7 @@
 -- Deltas laid over an image, one after the other.
 use Rattle.std.proofs.Common.{◌≡◌, ◌<◌, ◌≤◌, inl, inr, ℕ, ◌+◌, ◌-◌, ◌*◌, ◌/◌, ◌%◌, eqb, Bool, true, false, not, ◌&&◌, cond, List, [], ◌∷◌, ◌++◌, length, take, drop, slice_index, Option, Some, None, refl, sym, ap, ◌∙◌, arith, length-take, length-drop, length-append}
 use Rattle.std.specs.Option.{unwrap_or}
-use Rattle.std.specs.List.{filter, filter_map, last_or, cons_option}
+use Rattle.std.specs.List.{filter_map, last_or, cons_option}
 use Rattle.std.proofs.lemmas.Bool.{cases_lt, cases_Bool, and_left, and_right, eq-eqb, ne_eqb}
 use Rattle.std.proofs.lemmas.List.{append-nil, drop_all, take_all, ext_get_or, get_or-take, get_or-drop, get_or_append_left, get_or-append_right}
 use Rattle.std.proofs.lemmas.List.Elements.{filter_map-append, filter-append}

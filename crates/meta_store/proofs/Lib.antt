@@ -4,8 +4,10 @@ pub mod LiveDeltas
 pub mod LogLaid
 pub mod MergeSteps
 pub mod MergedTable
+pub mod MergedOrder
 pub mod PutBytes
 pub mod ImageLaid
 pub mod FreeBlocks
 pub mod PlainSteps
 pub mod NothingApplied
+pub mod BlockTaken

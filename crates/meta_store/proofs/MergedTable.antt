@@ -1,10 +1,9 @@
 -- What is merged of deltas that may be logged may be logged, each by itself.
-use Rattle.std.proofs.Common.{◌≡◌, ◌<◌, ◌≤◌, inl, inr, ℕ, ◌+◌, ◌-◌, ◌*◌, ◌/◌, ◌%◌, eqb, leb, ltb, Bool, true, false, ◌&&◌, cond, List, [], ◌∷◌, ◌++◌, length, map, zero, suc, take, drop, min, max, Option, Some, refl, sym, ap, subst, ◌∙◌, arith, length-take, length-drop, length-append}
+use Rattle.std.proofs.Common.{◌≡◌, ◌<◌, ◌≤◌, inl, inr, ℕ, ◌+◌, ◌-◌, ◌/◌, ◌%◌, eqb, leb, Bool, true, false, ◌&&◌, cond, List, [], ◌∷◌, ◌++◌, length, map, suc, take, drop, min, max, Some, refl, sym, ap, ◌∙◌, arith, length-take, length-drop, length-append}
 use Rattle.std.specs.Prelude.{All, AllPairs, nat_lt}
-use Rattle.std.proofs.lemmas.Bool.{cases_Bool, cases_lt, true≢false, false≢true, and_parts, and_from, eqb-true, eq-eqb, leb-true, le-leb}
-use Rattle.std.proofs.lemmas.List.Elements.{All-cons, All-head, All-tail, All-nil, All-map, All-weaker}
+use Rattle.std.proofs.lemmas.Bool.{cases_Bool, cases_lt, true≢false, and_parts, and_from, eqb-true, eq-eqb, leb-true, le-leb}
+use Rattle.std.proofs.lemmas.List.Elements.{All-map, All-weaker}
 use Rattle.std.proofs.lemmas.List.Kept.{AllPairs-cons}
-use Rattle.lufs_base.specs.Kinds.{has_bytes}
 use Rattle.lufs_base.specs.Layout.{blocks_of, region_of}
 use Rattle.lufs_base.specs.declared.geometry.Geometry.{Geometry}
 use Rattle.lufs_base.specs.declared.delta.Delta.{Delta}
@@ -14,8 +13,8 @@ use Rattle.volume_model.specs.Log.{AreLoggable, may_precede, type_of, kind_of, l
 use Rattle.meta_store.specs.Laid.{IsWithinBlock}
 use Rattle.meta_store.specs.Changes.{is_group_at, amended}
 use Rattle.meta_store.proofs.LogLaid.{logged_within}
-use Rattle.meta_store.specs.Merged.{is_group, is_whole_block, is_same_kind, is_pointers, share_block, touches, meets, replaces, joined, replacing, merged, all_merged}
-use Rattle.meta_store.proofs.MergeSteps.{replaced_in_block}
+use Rattle.meta_store.specs.Merged.{is_group, is_whole_block, is_same_kind, is_pointers, share_block, touches, meets, replaces, joined, replacing, merged}
+use Rattle.meta_store.proofs.MergeSteps.{merged_all}
 
 -- the delta may be logged, with just its bytes
 pub record IsLoggable (g : Geometry) (d : Delta) : Type 0 where
@@ -41,7 +40,7 @@ kind_back Zero = refl
 kind_back LinkText = refl
 kind_back Cancel = refl
 
-same_kind : (kind other : DeltaKind) → is_same_kind kind other ≡ true → kind ≡ other
+pub same_kind : (kind other : DeltaKind) → is_same_kind kind other ≡ true → kind ≡ other
 same_kind kind other is =
     let types : type_of kind ≡ type_of other = eqb-true (type_of kind) (type_of other) is in
     let both : Some kind ≡ Some other = sym (kind_back kind) ∙ ap kind_of types ∙ kind_back other in
@@ -206,24 +205,7 @@ replacing_loggable g d older is own its = elim (cases_Bool (is_whole_block d.kin
 ]
 
 pub merged_loggable : (g : Geometry) (deltas : List Delta) (d : Delta) → All (IsLoggable g) deltas → IsLoggable g d → All (IsLoggable g) (merged deltas d)
-unfolding merged
-merged_loggable g [] d all own = All-cons (IsLoggable g) d [] own (All-nil (IsLoggable g))
-merged_loggable g (older ∷ deltas) d all own =
-    let first = All-head (IsLoggable g) older deltas all in
-    let rest = All-tail (IsLoggable g) older deltas all in
-    elim (cases_Bool (replaces d older)) [
-      | inl is ↦ rw is (merged_loggable g deltas (replacing d older) rest (replacing_loggable g d older is own first))
-      | inr other ↦ rw other (elim (ltb d.home older.home) as (λ before. All (IsLoggable g) (cond before (d ∷ (older ∷ deltas)) (older ∷ merged deltas d))) [
-        | true ↦ All-cons (IsLoggable g) d (older ∷ deltas) own all
-        | false ↦ All-cons (IsLoggable g) older (merged deltas d) first (merged_loggable g deltas d rest own)
-      ])
-    ]
-
-pub all_merged_loggable : (g : Geometry) (deltas more : List Delta) → All (IsLoggable g) deltas → All (IsLoggable g) more → All (IsLoggable g) (all_merged deltas more)
-unfolding all_merged
-all_merged_loggable g deltas [] all own = all
-all_merged_loggable g deltas (d ∷ more) all own =
-    all_merged_loggable g (merged deltas d) more (merged_loggable g deltas d all (All-head (IsLoggable g) d more own)) (All-tail (IsLoggable g) d more own)
+merged_loggable g = merged_all (IsLoggable g) (replacing_loggable g)
 
 pub each_loggable : (g : Geometry) (deltas : List Delta) → AreLoggable g deltas → All (IsLoggable g) deltas
 each_loggable g deltas are = λ k d inside. record { table = are.table k d inside; bytes = are.bytes k d inside }

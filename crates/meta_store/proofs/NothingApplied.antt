@@ -1,16 +1,13 @@
 -- The change of nothing may always be applied.
-use Rattle.std.proofs.Common.{◌≡◌, ◌<◌, ◌≤◌, ℕ, ◌+◌, ◌*◌, Bool, true, false, not, ◌&&◌, List, [], Option, Some, None, IfSome, refl, sym, ap, subst, ◌∙◌, arith}
-use Rattle.std.specs.Prelude.{All, AllPairs}
-use Rattle.std.proofs.lemmas.List.Elements.{All-nil}
+use Rattle.std.proofs.Common.{◌≡◌, ◌≤◌, ℕ, Bool, true, false, not, ◌&&◌, Option, Some, None, IfSome, refl, sym, subst, arith}
+use Rattle.std.proofs.lemmas.Bool.{false≢true, both_ways}
 use Rattle.lufs_base.specs.declared.geometry.Geometry.{Geometry}
-use Rattle.volume_model.specs.Format.{Image, block, is_body}
-use Rattle.volume_model.specs.Log.{AreLoggable, may_precede}
-use Rattle.volume_model.specs.Sound.{Reading, reading_of, block_bit, metadata_length}
+use Rattle.volume_model.specs.Format.{Image, block}
+use Rattle.volume_model.specs.Sound.{Reading, reading_of, block_bit, is_claimed}
 use Rattle.meta_store.specs.NoChange.{no_change}
 use Rattle.meta_store.specs.Changing.{AllTold}
-use Rattle.meta_store.specs.Changes.{changed, frees}
-use Rattle.meta_store.specs.Conditions.{HasBitsOf, MayFollow, MayApply}
-use Rattle.meta_store.proofs.MergeSteps.{all_merged_none}
+use Rattle.meta_store.specs.Changes.{changed}
+use Rattle.meta_store.specs.Conditions.{MayFollow, MayApply}
 use Rattle.meta_store.proofs.ImageLaid.{nothing_over}
 
 not_both : (bit : Bool) → (not bit && bit) ≡ false
@@ -27,9 +24,13 @@ nothing_follows g taken r =
       raw_before = λ k w inside. absurd (omega (arith, inside));
       raw_after = λ k w inside. absurd (omega (arith, inside));
       deltas = λ k d inside. absurd (omega (arith, inside));
+      suited = λ k d inside. absurd (omega (arith, inside));
       kept = λ b kept. omega arith;
       given = λ b place from below. absurd (omega (arith, from, below));
       fresh = λ b none some. absurd (omega (arith, none, some));
+      stays = λ b is kept. record { claimed = is; kinds = λ kind. refl; length = λ none. refl };
+      claimed = λ b none is. absurd (both_ways (is_claimed r b) none is);
+      marked = λ b is. absurd (false≢true is);
       bits = record { set = λ b body. not_both (block_bit g r b); cleared = λ b body. not_either (block_bit g r b) };
     }
 
@@ -42,12 +43,11 @@ no_room : (room : Option ℕ) → IfSome room (λ room. 0 ≤ room)
 no_room None = tt
 no_room (Some room) = omega arith
 
-pub nothing_applied : (told : AllTold) → AreLoggable told.read.geometry told.changing.held → MayApply no_change told
-nothing_applied told held =
+pub nothing_applied : (told : AllTold) → MayApply no_change told
+nothing_applied told =
     record {
       taken = λ k b inside. absurd (omega (arith, inside));
       deltas = record { table = λ k d inside. absurd (omega (arith, inside)); order = λ i j d before inside. absurd (omega (arith, inside)); bytes = λ k d inside. absurd (omega (arith, inside)) };
-      order = subst (λ (l : List _). AllPairs (λ d later. may_precede d later.kind later.home ≡ true) l) (sym (all_merged_none told.changing.held)) held.order;
       cancels = λ b. refl;
       raw = λ k w inside. absurd (omega (arith, inside));
       room = no_room told.changing.room;

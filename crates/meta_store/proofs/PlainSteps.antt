@@ -1,9 +1,9 @@
 -- What a PlainStore tells after each of its changes.
-use Rattle.std.proofs.Common.{rules, ◌≡◌, ◌<◌, ◌≤◌, ℕ, ◌+◌, ◌-◌, ◌*◌, ◌/◌, ◌%◌, eqb, Bool, true, false, not, ◌&&◌, ◌||◌, cond, List, [], ◌∷◌, ◌++◌, length, take, drop, map, zero, suc, Option, Some, None, refl, sym, ap, subst, ◌∙◌, inl, inr, arith}
+use Rattle.std.proofs.Common.{rules, ◌≡◌, ◌<◌, ◌≤◌, ℕ, ◌+◌, ◌*◌, ◌/◌, ◌%◌, eqb, Bool, true, false, not, ◌&&◌, ◌||◌, List, [], ◌∷◌, ◌++◌, length, take, drop, map, zero, suc, refl, sym, ap, ◌∙◌, inl, inr, arith}
 use Rattle.std.specs.Prelude.{All, nat_lt, slice_set, slice_index_or}
 use Rattle.std.specs.List.{list_any, filter}
-use Rattle.std.proofs.lemmas.Bool.{cases_Bool, false≢true, true≢false, and_parts, and_left, eqb-true, ne_eqb, ltb-true, or_cases, both_ways}
-use Rattle.std.proofs.lemmas.List.Elements.{All-head, All-tail, All-map, All-weaker}
+use Rattle.std.proofs.lemmas.Bool.{cases_Bool, false≢true, true≢false, and_parts, eqb-true, ltb-true, or_cases, both_ways}
+use Rattle.std.proofs.lemmas.List.Elements.{All-head, All-tail, All-weaker}
 use Rattle.std.proofs.lemmas.List.Folds.{list_any-append}
 use Rattle.lufs_base.specs.Fields.{put_at}
 use Rattle.lufs_base.specs.Layout.{IsGeometry, group_start, blocks_of, region_of}
@@ -11,19 +11,17 @@ use Rattle.lufs_base.specs.declared.geometry.Geometry.{Geometry}
 use Rattle.lufs_base.specs.declared.delta.Delta.{Delta}
 use Rattle.lufs_base.specs.declared.delta.DeltaKind.{DeltaKind}
 use Rattle.lufs_base.specs.declared.numbers.BlockNo.{BlockNo}
-use Rattle.volume_model.specs.Format.{Image, Blocks, block, is_body, is_body_region}
+use Rattle.volume_model.specs.Format.{Image, block, is_body, is_body_region}
 use Rattle.volume_model.specs.Crash.{image_after}
 use Rattle.meta_store.specs.declared.change.RawWrite.{RawWrite}
 use Rattle.volume_model.specs.Log.{may_be_logged, is_home_of, is_part_of_block}
 use Rattle.volume_model.specs.Sound.{reading_of, block_bit, is_among}
 use Rattle.meta_store.specs.declared.change.Change.{Change}
-use Rattle.meta_store.specs.declared.change.Freed.{Freed}
-use Rattle.meta_store.specs.Laid.{IsWithinBlock}
 use Rattle.meta_store.specs.Merged.{all_merged}
 use Rattle.meta_store.specs.Store.{plain_told}
 use Rattle.meta_store.specs.Changing.{AllTold, all_told}
-use Rattle.meta_store.specs.Changes.{writes_of, changed, frees, numbers_in, with_part, is_group_at, amended, Applies, Fills, Amends}
-use Rattle.meta_store.specs.Conditions.{HasBitsOf, IsInBlock, MayApply, MayAmend}
+use Rattle.meta_store.specs.Changes.{writes_of, changed, numbers_in, with_part, amended, Applies, Fills, Amends}
+use Rattle.meta_store.specs.Conditions.{IsInBlock, MayApply, MayAmend}
 use Rattle.meta_store.specs.Plain.{is_free, plain_changing}
 use Rattle.meta_store.proofs.LogLaid.{logged_within}
 use Rattle.meta_store.proofs.PutBytes.{length-put_at, block_put, put_elsewhere}

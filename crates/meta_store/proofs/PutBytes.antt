@@ -1,9 +1,9 @@
 -- Bytes put into an image, byte by byte and block by block.
-use Rattle.std.proofs.Common.{◌≡◌, ◌<◌, ◌≤◌, inl, inr, ℕ, ◌+◌, ◌-◌, ◌*◌, ◌/◌, ◌%◌, eqb, Bool, true, false, cond, List, [], ◌∷◌, ◌++◌, length, take, drop, slice_index, refl, sym, ap, ◌∙◌, arith, length-take, length-drop, length-append}
+use Rattle.std.proofs.Common.{◌≡◌, ◌<◌, ◌≤◌, inl, inr, ℕ, ◌+◌, ◌-◌, ◌*◌, ◌/◌, ◌%◌, eqb, Bool, cond, List, [], ◌∷◌, ◌++◌, length, take, drop, slice_index, refl, sym, ap, ◌∙◌, arith, length-take, length-drop, length-append}
 use Rattle.std.proofs.lemmas.Bool.{cases_lt, cases_Bool, eqb-true, eqb-false}
 use Rattle.std.proofs.lemmas.List.{ext_get_or, get_or-take, get_or-drop, get_or_append_left, get_or-append_right, map-append}
 use Rattle.lufs_base.specs.Fields.{put_at}
-use Rattle.volume_model.specs.Format.{Image, Blocks, block}
+use Rattle.volume_model.specs.Format.{Image, block}
 use Rattle.volume_model.specs.declared.device_call.DeviceCall.{DeviceCall}
 use Rattle.volume_model.specs.declared.device_call.DeviceCall.TheVariants.{Write}
 use Rattle.volume_model.specs.Crash.{image_after}

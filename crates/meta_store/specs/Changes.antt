@@ -1,5 +1,5 @@
 -- What the calls that change a store do to what it tells.
-use Rattle.std.specs.Prelude.{◌≡◌, ◌<◌, ◌⊎◌, ℕ, ◌+◌, ◌-◌, ◌*◌, ◌/◌, ◌%◌, ◌==◌, Bool, true, false, not, ◌&&◌, ◌||◌, if◌then◌else◌, List, [], ◌∷◌, map, length, Option, IfSome, is_some, option_map, Contains}
+use Rattle.std.specs.Prelude.{◌≡◌, ◌<◌, ◌⊎◌, ℕ, ◌-◌, ◌*◌, ◌/◌, ◌%◌, ◌==◌, Bool, true, false, not, ◌&&◌, ◌||◌, if◌then◌else◌, List, map, length, Option, IfSome, is_some, option_map, Contains}
 use Rattle.std.specs.List.{filter, list_any}
 use Rattle.lufs_base.specs.Fields.{put_at}
 use Rattle.lufs_base.specs.Layout.{blocks_of}
@@ -13,12 +13,10 @@ use Rattle.volume_model.specs.Log.{delta_bytes}
 use Rattle.volume_model.specs.Sound.{is_among}
 use Rattle.volume_model.specs.Crash.{image_after, written_to}
 use Rattle.meta_store.specs.declared.change.Change.{Change}
-use Rattle.meta_store.specs.declared.change.Freed.{Freed}
 use Rattle.meta_store.specs.declared.change.RawWrite.{RawWrite}
 use Rattle.meta_store.specs.Laid.{lays_on, laid_over}
 use Rattle.meta_store.specs.Merged.{is_group, all_merged}
-use Rattle.meta_store.specs.Store.{StoreTold}
-use Rattle.meta_store.specs.Changing.{Changing, IsKept, AllTold}
+use Rattle.meta_store.specs.Changing.{IsKept, AllTold}
 
 -- the raw writes as calls of a disk, in order
 abbrev pub writes_of : List RawWrite → List DeviceCall

@@ -6,5 +6,7 @@ pub mod Changing
 pub mod Merged
 pub mod NoChange
 pub mod Changes
+pub mod Suited
 pub mod Conditions
 pub mod Plain
+pub mod Worked

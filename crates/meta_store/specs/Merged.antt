@@ -1,6 +1,8 @@
 -- A delta merged into those that a transaction holds: a later one takes the place of an older one at the same place,
--- pointers that overlap or touch are joined, and a zero block or a cancel is all that is held of its block.
-use Rattle.std.specs.Prelude.{ℕ, ◌+◌, ◌-◌, ◌*◌, ◌/◌, ◌==◌, nat_le, nat_lt, min, max, Bool, true, false, ◌&&◌, ◌||◌, if◌then◌else◌, List, [], ◌∷◌, ◌++◌, take, drop, Option, Some, None}
+-- pointers that overlap or touch are joined, a zero block or a cancel is all that is held of its block, and of a block no
+-- other kinds are held together.
+use Rattle.std.specs.Prelude.{◌+◌, ◌-◌, ◌/◌, ◌==◌, nat_le, nat_lt, min, max, Bool, not, ◌&&◌, ◌||◌, if◌then◌else◌, List, [], ◌∷◌, ◌++◌, take, drop, Option, Some, None}
+use Rattle.std.specs.List.{filter}
 use Rattle.lufs_base.specs.declared.delta.Delta.{Delta}
 use Rattle.lufs_base.specs.declared.delta.DeltaKind.{DeltaKind}
 use Rattle.volume_model.specs.Log.{type_of, is_zero_block, is_cancel}
@@ -49,17 +51,30 @@ joined d older = record {
 abbrev pub replacing : Delta → Delta → Delta
 replacing d older = if is_whole_block d.kind then d else joined d older
 
+-- A delta of a part of its block excludes an older one of another kind in that block, unless that is a zero block.
+abbrev pub excludes : Delta → Delta → Bool
+excludes d older =
+    not (is_whole_block d.kind) && share_block d older && not (is_same_kind d.kind older.kind) && not (is_zero_block older.kind)
+
+-- What the older one lays is kept where the delta is merged in, but for the bytes that the delta covers.
+abbrev pub stands_beside : Delta → Delta → Bool
+stands_beside d older = not (excludes d older)
+
+-- the deltas, which all stand beside this one, with it in its place
+unfoldable pub placed : List Delta → Delta → List Delta
+placed [] d = d ∷ []
+placed (older ∷ deltas) d =
+    if replaces d older then placed deltas (replacing d older)
+    else (if nat_lt d.home older.home then d ∷ (older ∷ deltas) else older ∷ placed deltas d)
+
+-- and with the one that is left to be placed, if there is one
+abbrev pub placed_left : Option Delta → List Delta → List Delta
+placed_left None deltas = deltas
+placed_left (Some d) deltas = placed deltas d
+
 -- the deltas with one more
 unfoldable pub merged : List Delta → Delta → List Delta
-merged [] d = d ∷ []
-merged (older ∷ deltas) d =
-    if replaces d older then merged deltas (replacing d older)
-    else (if nat_lt d.home older.home then d ∷ (older ∷ deltas) else older ∷ merged deltas d)
-
--- and with the one that is left to be merged, if there is one
-abbrev pub merged_left : Option Delta → List Delta → List Delta
-merged_left None deltas = deltas
-merged_left (Some d) deltas = merged deltas d
+merged deltas d = placed (filter (stands_beside d) deltas) d
 
 -- and with these, one after the other
 unfoldable pub all_merged : List Delta → List Delta → List Delta

@@ -1,4 +1,4 @@
-// What a call changes, all of it applied at once.
+//! What a call changes, all of it applied at once.
 ghost use Rattle.std.specs.Prelude.{◌≡◌, ◌∷◌, ◌++◌, [], length, OnOk, OnErr};
 
 use lufs_base::{BlockNo, Bytes, DeltaList, Mem};

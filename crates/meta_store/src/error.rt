@@ -1,9 +1,10 @@
+//! Why work on a store came to no end.
 ghost use Rattle.std.specs.Prelude.{◌≡◌};
 
 use lufs_base::{DiskFault, Mem};
 use std::alloc::{AllocError, AllocFailed};
 
-/// Why work on a store came to no end.
+/// What ended the work on a store.
 #[derive(Clone, Copy, Debug, PartialEq, Eq)]
 pub enum StoreError {
     /// The disk under the store failed.

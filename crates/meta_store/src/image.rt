@@ -1,4 +1,4 @@
-// An image in memory: raw writes and deltas laid over it, and the bits of its blocks.
+//! An image in memory: raw writes and deltas laid over it, and the bits of its blocks.
 ghost use Rattle.std.specs.Prelude.{◌≡◌, ◌≤◌, ◌<◌, ◌+◌, ◌*◌, ◌/◌, ◌∷◌, [], length, All, true};
 ghost use Rattle.lufs_base.specs.Layout.{IsGeometry, blocks_of};
 ghost use Rattle.lufs_base.specs.Fields.{put_at};

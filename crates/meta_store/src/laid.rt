@@ -1,3 +1,4 @@
+//! The deltas of a log by the blocks that they lie in, as a replay lays them.
 ghost use Rattle.std.specs.Prelude.{◌≡◌, ℕ, ◌/◌, ◌==◌, ◌++◌, ◌∷◌, [], List, length, Some, IfOk, OnOk, ◌&&◌, if◌then◌else◌};
 ghost use Rattle.std.specs.List.{filter, list_any};
 ghost use Rattle.lufs_base.specs.declared.geometry.Geometry.{Geometry};

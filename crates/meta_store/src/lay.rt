@@ -1,4 +1,4 @@
-// Deltas laid over the bytes of a block.
+//! Deltas laid over the bytes of a block.
 ghost use Rattle.std.specs.Prelude.{◌≡◌, ◌∷◌, [], length};
 ghost use Rattle.volume_model.specs.Log.{byte_of};
 ghost use Rattle.meta_store.specs.Laid.{laid_part, laid_block};

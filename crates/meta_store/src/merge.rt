@@ -1,8 +1,8 @@
-// Deltas merged into those that a transaction holds: a later one takes the place of older ones.
+//! Deltas merged into those that a transaction holds: a later one takes the place of older ones.
 ghost use Rattle.std.specs.Prelude.{◌≡◌, ℕ, ◌<◌, ◌++◌, ◌∷◌, ◌%◌, List, [], IfOk, OnOk, IfSome, All, true};
 ghost use Rattle.lufs_base.specs.declared.delta.Delta.{Delta};
 ghost use Rattle.meta_store.specs.Laid.{IsWithinBlock};
-ghost use Rattle.meta_store.specs.Merged.{is_whole_block, is_same_kind, share_block, touches, meets, replaces, joined, replacing, merged, merged_left, all_merged};
+ghost use Rattle.meta_store.specs.Merged.{is_whole_block, is_same_kind, share_block, touches, meets, replaces, joined, replacing, excludes, stands_beside, placed_left, merged, all_merged};
 
 use crate::laid::{block_of, copy_of};
 use lufs_base::{BLOCK, Bytes, Delta, DeltaKind, Mem};
@@ -58,6 +58,16 @@ fn replaces(delta: &Delta, older: &Delta) -> bool
     }
 }
 
+// Whether an older delta goes because it is of another kind than the delta, in one block with it.
+fn excludes(delta: &Delta, older: &Delta) -> bool
+    ensures { result ≡ excludes delta.now older.now }
+{
+    !is_whole_block(delta)
+        && share_block(delta, older)
+        && !is_same_kind(delta, older)
+        && !matches!(older.kind, DeltaKind::Zero)
+}
+
 // Where in its block a delta lies.
 fn place_of(delta: &Delta) -> usize
     ensures { result ≡ delta.now.home % 4096 }
@@ -102,7 +112,7 @@ fn replacing(alloc: Global, delta: Delta, older: &Delta) -> Result<Delta, Mem>
 }
 
 // Puts an older delta into the list, or the new one before it, and answers the new one if it is still left.
-fn merge_one(
+fn place_one(
     alloc: Global,
     list: &mut Vec<Delta>,
     left: Option<Delta>,
@@ -110,7 +120,7 @@ fn merge_one(
 ) -> Result<Option<Delta>, Mem>
     requires left { IfSome left IsWithinBlock }
     requires older { IsWithinBlock older.now }
-    ensures list { IfOk result (λ next. (more : List Delta) → list.new.items ++ merged_left next more ≡ list.old.items ++ merged_left left (older.now ∷ more)) }
+    ensures list { IfOk result (λ next. (more : List Delta) → list.new.items ++ placed_left next more ≡ list.old.items ++ placed_left left (older.now ∷ more)) }
     ensures left { IfOk result (λ next. IfSome next IsWithinBlock) }
 {
     let Some(delta) = left else {
@@ -130,9 +140,9 @@ fn merge_one(
 }
 
 // Puts the new delta at the end, if it is still left.
-#[tactic(auto, using(crate::proofs::MergeSteps::merged_last))]
+#[tactic(auto, using(crate::proofs::MergeSteps::placed_last))]
 fn push_left(list: &mut Vec<Delta>, left: Option<Delta>) -> Result<(), Mem>
-    ensures { OnOk result (list.new.items ≡ list.old.items ++ merged_left left []) }
+    ensures { OnOk result (list.new.items ≡ list.old.items ++ placed_left left []) }
 {
     if let Some(delta) = left {
         list.push(delta)?;
@@ -141,7 +151,8 @@ fn push_left(list: &mut Vec<Delta>, left: Option<Delta>) -> Result<(), Mem>
 }
 
 /// The deltas of a transaction with one more, which takes the place of an older one at the same place, or of
-/// all deltas of its block if it is a zero block or a cancel. Pointers that overlap or touch are joined.
+/// all deltas of its block if it is a zero block or a cancel. Pointers that overlap or touch are joined, and
+/// older deltas of other kinds in its block go, but for a zero block.
 pub fn merged(alloc: Global, deltas: &[Delta], delta: &Delta) -> Result<Vec<Delta>, Mem>
     requires deltas { All IsWithinBlock deltas.now }
     requires delta { IsWithinBlock delta.now }
@@ -150,7 +161,9 @@ pub fn merged(alloc: Global, deltas: &[Delta], delta: &Delta) -> Result<Vec<Delt
     let mut all = Vec::new(alloc);
     let mut left = Some(copy_of(alloc, delta)?);
     for older in deltas {
-        left = merge_one(alloc, &mut all, left, older)?;
+        if !excludes(delta, older) {
+            left = place_one(alloc, &mut all, left, older)?;
+        }
     }
     push_left(&mut all, left)?;
     Ok(all)

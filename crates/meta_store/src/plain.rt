@@ -1,3 +1,4 @@
+//! A store of an image in memory, which takes every change.
 ghost use Rattle.std.specs.Prelude.{◌≡◌, ◌≤◌, ◌<◌, ◌*◌, ◌++◌, ◌==◌, length, map, IsOk, IfOk};
 ghost use Rattle.std.specs.List.{list_any};
 ghost use Rattle.lufs_base.specs.Layout.{IsGeometry, blocks_of};

@@ -1,3 +1,4 @@
+//! Reading the blocks of a volume.
 ghost use Rattle.std.specs.Prelude.{◌≡◌, ◌≤◌, ◌<◌, ◌*◌, length, IfSome, OnOk};
 ghost use Rattle.lufs_base.specs.Layout.{IsGeometry, blocks_of};
 ghost use Rattle.volume_model.specs.Format.{sectors_of};

@@ -1,4 +1,4 @@
-// A store of the blocks of a volume that takes changes.
+//! A store of the blocks of a volume that takes changes.
 ghost use Rattle.std.specs.Prelude.{◌≡◌, ◌<◌, ◌*◌, ◌∷◌, [], length, OnOk, OnErr, Err};
 ghost use Rattle.lufs_base.specs.Layout.{blocks_of};
 ghost use Rattle.volume_model.specs.declared.device_call.DeviceCall.TheVariants.{Write};

@@ -1,10 +1,15 @@
-ghost use Rattle.std.specs.Prelude.{◌≡◌, ◌%◌, ◌↔◌, ◌≤◌, ◌+◌, length, IfOk, IsTrue, All};
+//! Tests of reading, laying, merging and applying.
+ghost use Rattle.std.specs.Prelude.{◌≡◌, ◌%◌, ◌↔◌, ◌≤◌, ◌+◌, length, take, IfOk, IsTrue, All};
+ghost use Rattle.volume_model.specs.Worked.{smallest};
 ghost use Rattle.meta_store.specs.Laid.{IsWithinBlock};
+ghost use Rattle.meta_store.specs.Worked.{record_with, taking};
 
 use crate::{
     Change, LaidDeltas, MetaRead, MetaStore, PlainStore, ReplayedDisk, StoreError, merged,
 };
-use lufs_base::{BLOCK, BlockNo, Bytes, Delta, DeltaKind, DeltaList, DiskFault, Geometry, Mem};
+use lufs_base::{
+    BLOCK, BlockNo, Bytes, Delta, DeltaKind, DeltaList, DiskFault, Geometry, Mem, are_zeros,
+};
 use sector_disk::{Disk, Fail, MemDisk, SureDisk};
 use std::alloc::Global;
 use volume_model::{Tx, TxList};
@@ -335,6 +340,18 @@ fn merged_deltas(rt: HostRuntime) -> Result<(), std::test::Fail> {
             ][..],
         ),
         (
+            "another kind goes",
+            &[
+                (0, DeltaKind::Chunk, 38, 0, 512, 1),
+                (0, DeltaKind::Chunk, 39, 0, 512, 2),
+                (0, DeltaKind::Pointers, 38, 512, 8, 3),
+            ][..],
+            &[
+                (DeltaKind::Pointers, 0x26200, 8, Some(3), Some(3)),
+                (DeltaKind::Chunk, 0x27000, 512, Some(2), Some(2)),
+            ][..],
+        ),
+        (
             "a cancel alone",
             &[
                 (0, DeltaKind::Zero, 38, 0, 4096, 0),
@@ -398,5 +415,80 @@ fn released_blocks(rt: HostRuntime) -> Result<(), std::test::Fail> {
             assert_eq!(rt; store.is_released(BlockNo(b)), want, "{b}");
         }
     }
+    Ok(())
+}
+
+// The record of the smallest volume's group, with these bits of its first blocks.
+fn group_record(alloc: Global, first: u8) -> Result<Vec<u8>, Mem>
+    ensures { IfOk result (λ bytes. bytes.items ≡ record_with first) }
+{
+    let mut record = Vec::from_slice(alloc, &[0, 9, 2, 0x55])?;
+    record.extend_from_slice(&[0; 28])?;
+    record.push(3)?;
+    record.extend_from_slice(&[0; 127])?;
+    record.push(first)?;
+    record.extend_from_slice(&[0; 6])?;
+    record.push(0x80)?;
+    record.extend_from_slice(&[0; 248])?;
+    Ok(record)
+}
+
+// The change that takes block 38 where just the first three bits are set.
+fn taking(alloc: Global) -> Result<Change, Mem>
+    ensures { IfOk result (λ change. change ≡ taking) }
+{
+    let bytes = Bytes::from_vec(group_record(alloc, 0x0f)?);
+    let mut change = Change::new(alloc);
+    change.deltas.push(Delta {
+        kind: DeltaKind::Group,
+        home: 143_360,
+        len: 416,
+        bytes,
+    })?;
+    change.taken.push(BlockNo(38))?;
+    Ok(change)
+}
+
+// Whether a block begins with the bytes of a group record.
+fn begins_with(block: &[u8], bytes: &[u8]) -> bool
+    requires { 416 ≤ length block.now }
+    ensures { IsTrue result → take 416 block.now ≡ bytes.now }
+{
+    &block[..416] == bytes
+}
+
+// Takes block 38 if the volume has no inodes and just its reserved blocks are in use, and answers whether it did.
+fn take_block(alloc: Global, store: &mut PlainStore) -> Result<bool, StoreError>
+    requires { (⟦<PlainStore as MetaRead>⟧.store store.old).geometry ≡ smallest }
+{
+    let mut inodes = [0; BLOCK];
+    store.block(BlockNo(36), &mut inodes)?;
+    let mut group = [0; BLOCK];
+    store.block(BlockNo(35), &mut group)?;
+    if !are_zeros(&inodes) {
+        return Ok(false);
+    }
+    if !begins_with(&group, group_record(alloc, 0x07)?.as_slice()) {
+        return Ok(false);
+    }
+    if !store.is_released(BlockNo(38)) {
+        return Ok(false);
+    }
+    store.apply(alloc, &taking(alloc)?)?;
+    Ok(true)
+}
+
+#[test]
+fn a_block_taken(rt: HostRuntime) -> Result<(), std::test::Fail> {
+    let alloc = rt.alloc();
+    let image = with_group(alloc, [0x07, 0, 0, 0, 0, 0, 0, 0x80])?;
+    let mut store = PlainStore::new(&SMALLEST, image);
+    assert_eq!(rt; take_block(alloc, &mut store), Ok(true));
+    let mut out = [0; BLOCK];
+    store.block(BlockNo(35), &mut out)?;
+    let record = group_record(alloc, 0x0f)?;
+    assert!(rt; begins_with(&out, record.as_slice()));
+    assert_eq!(rt; store.is_released(BlockNo(38)), false);
+    assert_eq!(rt; store.is_released(BlockNo(39)), true);
     Ok(())
 }

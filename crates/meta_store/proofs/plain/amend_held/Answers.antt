@@ -1,4 +1,4 @@
-use Rattle.std.proofs.Common.{List, arith}
+use Rattle.std.proofs.Common.{List}
 use Rattle.lufs_base.specs.declared.delta.Delta.{Delta}
 use Rattle.meta_store.specs.Changes.{amended}
 use Rattle.meta_store.proofs.PlainSteps.{changed_next}

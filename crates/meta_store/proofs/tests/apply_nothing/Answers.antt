@@ -9,4 +9,4 @@ pub apply-requires : goal.apply-requires
 apply-requires g c =
     let store = c.args.store.now in
     let told = all_told (g.S.MetaRead.store store) (g.S.MetaRead.changing store) in
-    record { may = subst (λ (change : Change). MayApply change told) (sym c.new.ensures) (nothing_applied told (g.met.S.MetaStore.loggable store)) }
+    record { may = subst (λ (change : Change). MayApply change told) (sym c.new.ensures) (nothing_applied told) }

@@ -1,14 +1,11 @@
-use Rattle.std.proofs.Common.{rules, ◌≡◌, ◌<◌, ◌≤◌, ℕ, ◌+◌, ◌*◌, ◌/◌, ◌%◌, eqb, Bool, not, List, length, map, refl, ap, sym, subst, ◌∙◌, arith}
-use Rattle.std.specs.Prelude.{All}
+use Rattle.std.proofs.Common.{rules, ◌≡◌, ◌≤◌, ℕ, ◌+◌, eqb, not, List, length, ap, sym, subst, ◌∙◌, arith}
 use Rattle.std.specs.List.{list_any, filter}
 use Rattle.std.proofs.lemmas.Fn.{filter_same}
-use Rattle.std.proofs.lemmas.List.Elements.{All-same, filter_agree}
-use Rattle.lufs_base.specs.Layout.{blocks_of}
+use Rattle.std.proofs.lemmas.List.Elements.{filter_agree}
 use Rattle.lufs_base.specs.declared.delta.Delta.{Delta}
 use Rattle.lufs_base.specs.declared.numbers.BlockNo.{BlockNo}
 use Rattle.volume_model.specs.Sound.{is_among}
-use Rattle.meta_store.specs.Laid.{IsWithinBlock}
-use Rattle.meta_store.specs.Changes.{numbers_in, amended}
+use Rattle.meta_store.specs.Changes.{numbers_in}
 use Rattle.meta_store.proofs.LogLaid.{logged_within}
 use Rattle.meta_store.proofs.PutBytes.{length-put_at}
 use Rattle.meta_store.proofs.PlainSteps.{any_of_map, logged_inside, amends}

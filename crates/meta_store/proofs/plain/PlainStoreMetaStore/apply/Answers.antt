@@ -1,5 +1,4 @@
-use Rattle.std.proofs.Common.{◌≡◌, ℕ, ◌<◌, ◌≤◌, ◌+◌, ◌*◌, ◌/◌, List, ◌++◌, length, map, true, ap, sym, subst, ◌∙◌, arith}
-use Rattle.std.specs.Prelude.{All}
+use Rattle.std.proofs.Common.{◌≡◌, ℕ, ◌≤◌, ◌+◌, ◌*◌, ◌/◌, List, ◌++◌, length, map, true, ap, sym, subst, ◌∙◌, arith}
 use Rattle.std.proofs.lemmas.List.Elements.{All-same, All-weaker}
 use Rattle.lufs_base.specs.declared.delta.Delta.{Delta}
 use Rattle.volume_model.specs.Format.{Image}
@@ -10,9 +9,9 @@ use Rattle.meta_store.specs.declared.change.RawWrite.{RawWrite}
 use Rattle.meta_store.specs.Laid.{IsWithinBlock, laid_over}
 use Rattle.meta_store.specs.LaidSize.{length-laid_over}
 use Rattle.meta_store.specs.Merged.{all_merged}
-use Rattle.meta_store.specs.Changes.{writes_of, deltas_on, changed}
-use Rattle.meta_store.proofs.LogLaid.{logged_within}
-use Rattle.meta_store.proofs.MergedTable.{each_loggable, are_loggable, all_within, all_merged_loggable}
+use Rattle.meta_store.specs.Changes.{writes_of, deltas_on}
+use Rattle.meta_store.proofs.MergedTable.{each_loggable, all_within}
+use Rattle.meta_store.proofs.MergedOrder.{all_merged_are_loggable}
 use Rattle.meta_store.specs.Conditions.{IsInBlock}
 use Rattle.lufs_base.specs.Layout.{blocks_of}
 use Rattle.meta_store.proofs.PlainSteps.{applied, logged_inside, raw_fits, raw_size}
@@ -60,8 +59,7 @@ invariant_of-self c =
     record {
       in_range = s.in_range;
       whole = omega (arith, s.whole, size);
-      loggable = subst (λ (l : List Delta). AreLoggable g l) (sym merged_is)
-          (are_loggable g (all_merged s.held.items deltas) (all_merged_loggable g s.held.items deltas (each_loggable g s.held.items s.loggable) (each_loggable g deltas c.requires.may.deltas)) c.requires.may.order);
+      loggable = subst (λ (l : List Delta). AreLoggable g l) (sym merged_is) (all_merged_are_loggable g s.held.items deltas s.loggable (each_loggable g deltas c.requires.may.deltas));
     }
 
 pub returns-clause-ok : goal.returns-clause-ok

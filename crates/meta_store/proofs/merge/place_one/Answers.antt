@@ -1,9 +1,9 @@
-use Rattle.std.proofs.Common.{◌≡◌, List, [], ◌∷◌, ◌++◌, Option, sym, ap, ◌∙◌, append_assoc, arith}
+use Rattle.std.proofs.Common.{List, [], ◌∷◌, ◌++◌, Option, sym, ap, ◌∙◌, append_assoc}
 use Rattle.std.proofs.lemmas.Bool.{lt-ltb, le-ltb}
 use Rattle.lufs_base.specs.declared.delta.Delta.{Delta}
-use Rattle.meta_store.specs.Merged.{merged, merged_left}
-use Rattle.meta_store.proofs.MergeSteps.{merged_replaced, merged_before, merged_after}
-use Rattle.meta_store.proofs.merge.merge_one.Goals as goal
+use Rattle.meta_store.specs.Merged.{placed, placed_left}
+use Rattle.meta_store.proofs.MergeSteps.{placed_replaced, placed_before, placed_after}
+use Rattle.meta_store.proofs.merge.place_one.Goals as goal
 
 pub returns-then-replaces-clause-list : goal.returns-then-replaces-clause-list
 returns-then-replaces-clause-list c =
@@ -12,9 +12,9 @@ returns-then-replaces-clause-list c =
     let d = c.in-Some.delta in
     λ more.
     ap (λ (l : List Delta). old ++ l)
-    (ap (λ (x : Delta). merged more x) c.in_ok-replacing.ensures
-    ∙ sym (merged_replaced d older more (sym c.replaces.ensures ∙ c.if-replaces.true))
-    ∙ ap (λ (o : Option Delta). merged_left o (older ∷ more)) (sym c.in-Some.is))
+    (ap (λ (x : Delta). placed more x) c.in_ok-replacing.ensures
+    ∙ sym (placed_replaced d older more (sym c.replaces.ensures ∙ c.if-replaces.true))
+    ∙ ap (λ (o : Option Delta). placed_left o (older ∷ more)) (sym c.in-Some.is))
 
 pub returns-then-delta-older-clause-list : goal.returns-then-delta-older-clause-list
 returns-then-delta-older-clause-list c =
@@ -28,8 +28,8 @@ returns-then-delta-older-clause-list c =
     ∙ append_assoc (old ++ d ∷ []) (older ∷ []) more
     ∙ append_assoc old (d ∷ []) (older ∷ more)
     ∙ ap (λ (l : List Delta). old ++ l)
-    (sym (merged_before d older more (sym c.replaces.ensures ∙ c.if-replaces.false) (lt-ltb d.home older.home c.if-delta-older.true))
-    ∙ ap (λ (o : Option Delta). merged_left o (older ∷ more)) (sym c.in-Some.is))
+    (sym (placed_before d older more (sym c.replaces.ensures ∙ c.if-replaces.false) (lt-ltb d.home older.home c.if-delta-older.true))
+    ∙ ap (λ (o : Option Delta). placed_left o (older ∷ more)) (sym c.in-Some.is))
 
 pub returns-clause-list : goal.returns-clause-list
 returns-clause-list c =
@@ -37,9 +37,9 @@ returns-clause-list c =
     let older = c.args.older.now in
     let d = c.in-Some.delta in
     λ more.
-    ap (λ (l : List Delta). l ++ merged more d) c.in_ok-push-4.ensures.items
-    ∙ ap (λ (x : Delta). (old ++ x ∷ []) ++ merged more d) c.in_ok-copy_of-3.ensures
-    ∙ append_assoc old (older ∷ []) (merged more d)
+    ap (λ (l : List Delta). l ++ placed more d) c.in_ok-push-4.ensures.items
+    ∙ ap (λ (x : Delta). (old ++ x ∷ []) ++ placed more d) c.in_ok-copy_of-3.ensures
+    ∙ append_assoc old (older ∷ []) (placed more d)
     ∙ ap (λ (l : List Delta). old ++ l)
-    (sym (merged_after d older more (sym c.replaces.ensures ∙ c.if-replaces.false) (le-ltb d.home older.home c.if-delta-older.false))
-    ∙ ap (λ (o : Option Delta). merged_left o (older ∷ more)) (sym c.in-Some.is))
+    (sym (placed_after d older more (sym c.replaces.ensures ∙ c.if-replaces.false) (le-ltb d.home older.home c.if-delta-older.false))
+    ∙ ap (λ (o : Option Delta). placed_left o (older ∷ more)) (sym c.in-Some.is))
