@@ -5,6 +5,7 @@
 mod numbers;
 mod record;
 
+pub use numbers::put_numbers;
 pub use record::{BadInode, read_dinode, write_dinode};
 pub use volume_model::Dinode;
 

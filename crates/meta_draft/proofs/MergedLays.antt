@@ -1,9 +1,8 @@
 -- Laying deltas that were merged is laying them one after the other.
-use Rattle.std.proofs.Common.{◌≡◌, ◌<◌, ◌≤◌, inl, inr, ℕ, zero, suc, ◌+◌, ◌-◌, ◌*◌, ◌/◌, ◌%◌, eqb, leb, ltb, Bool, true, false, not, ◌&&◌, ◌||◌, cond, List, [], ◌∷◌, ◌++◌, length, take, drop, slice_index, min, max, Option, Some, None, refl, sym, ap, subst, ◌∙◌, arith, length-take, length-drop, length-append}
+use Rattle.std.proofs.Common.{◌≡◌, ◌<◌, ◌≤◌, inl, inr, ℕ, suc, ◌+◌, ◌-◌, ◌/◌, ◌%◌, eqb, leb, ltb, Bool, true, false, not, ◌&&◌, ◌||◌, cond, List, [], ◌∷◌, ◌++◌, length, take, drop, slice_index, Option, Some, None, refl, sym, ap, subst, ◌∙◌, arith, length-take}
 use Rattle.std.specs.Prelude.{All, AllPairs}
-use Rattle.std.specs.Option.{unwrap_or}
-use Rattle.std.specs.List.{filter_map, last_or, cons_option}
-use Rattle.std.proofs.lemmas.Bool.{cases_Bool, cases_lt, true≢false, false≢true, and_parts, and_from, and_left, and_right, or_cases, eqb-true, eqb-false, leb-true, ltb-true, le-leb, lt-leb, lt-ltb, le-ltb, ltb-false, eq-eqb, not-true}
+use Rattle.std.specs.List.{filter}
+use Rattle.std.proofs.lemmas.Bool.{cases_Bool, cases_lt, true≢false, false≢true, and_parts, and_from, and_left, and_right, or_cases, eqb-true, eqb-false, leb-true, ltb-true, le-leb, lt-leb, lt-ltb, le-ltb, not-true}
 use Rattle.std.proofs.lemmas.List.{get_or-take, get_or-drop, get_or_append_left, get_or-append_right}
 use Rattle.std.proofs.lemmas.List.Elements.{All-head, All-tail, All-cons, All-weaker}
 use Rattle.lufs_base.specs.Kinds.{has_bytes}
@@ -11,12 +10,12 @@ use Rattle.lufs_base.specs.declared.geometry.Geometry.{Geometry}
 use Rattle.lufs_base.specs.declared.delta.Delta.{Delta}
 use Rattle.lufs_base.specs.declared.delta.DeltaKind.{DeltaKind}
 use Rattle.lufs_base.specs.declared.delta.DeltaKind.TheVariants.{Group, Inode, Chunk, Pointers, Zero, LinkText, Cancel}
-use Rattle.volume_model.specs.Log.{may_be_logged, may_precede, is_zero_block, is_cancel, is_part_of_block, byte_of, given_at, logged_len}
+use Rattle.volume_model.specs.Log.{may_precede, is_zero_block, is_cancel, is_part_of_block, byte_of, given_at}
 use Rattle.meta_store.specs.Laid.{IsWithinBlock}
-use Rattle.meta_store.specs.Merged.{is_whole_block, share_block, meets, replaces, joined, replacing, merged}
+use Rattle.meta_store.specs.Merged.{is_whole_block, share_block, meets, replaces, joined, replacing, stands_beside, placed, merged}
 use Rattle.meta_store.proofs.LogLaid.{logged_within, cancel_gives_none, none_or_none}
-use Rattle.meta_store.proofs.MergeSteps.{merged_replaced, merged_before, merged_after, merged_last, replaced_in_block}
-use Rattle.meta_store.proofs.MergedTable.{IsLoggable, Meets, meets_by, replacing_loggable, table_parts, logged_len_of}
+use Rattle.meta_store.proofs.MergeSteps.{placed_replaced, placed_before, placed_after, placed_last, replaced_in_block}
+use Rattle.meta_store.proofs.MergedTable.{IsLoggable, meets_by, replacing_loggable, table_parts, logged_len_of}
 use Rattle.meta_draft.proofs.Later.{later, last_given, given_first, none_given, later_none, later_later}
 
 -- what these deltas give for the byte at this address
@@ -270,34 +269,52 @@ away_still a d older is away = elim (cases_Bool (is_whole_block d.kind)) [
   | inr part ↦ rw part (λ cancel same. away cancel (let block = replaced_in_block d older is in omega (arith, block, same)))
 ]
 
--- the deltas with one more merged into them give what that gives, or else what they gave
-pub merged_gives : (g : Geometry) (a : ℕ) (deltas : List Delta) (d : Delta) → All (IsLoggable g) deltas → IsLoggable g d → AreOrdered deltas → AreOrdered (merged deltas d)
-    → (is_cancel d.kind ≡ true → d.home / 4096 ≡ a / 4096 → ⊥) → last_at a (merged deltas d) ≡ later (given_at a d) (last_at a deltas)
-merged_gives g a [] d all own order merged_order away =
-    ap (last_at a) (merged_last d) ∙ given_first (λ x. given_at a x) d [] ∙ sym (later_none (given_at a d))
-merged_gives g a (older ∷ more) d all own order merged_order away =
+-- the deltas with one more in its place give what that gives, or else what they gave
+placed_gives : (g : Geometry) (a : ℕ) (deltas : List Delta) (d : Delta) → All (IsLoggable g) deltas → IsLoggable g d → AreOrdered deltas → AreOrdered (placed deltas d)
+    → (is_cancel d.kind ≡ true → d.home / 4096 ≡ a / 4096 → ⊥) → last_at a (placed deltas d) ≡ later (given_at a d) (last_at a deltas)
+placed_gives g a [] d all own order merged_order away =
+    ap (last_at a) (placed_last d) ∙ given_first (λ x. given_at a x) d [] ∙ sym (later_none (given_at a d))
+placed_gives g a (older ∷ more) d all own order merged_order away =
     let f = λ (x : Delta). given_at a x in
     let its = All-head (IsLoggable g) older more all in
     let rest = All-tail (IsLoggable g) older more all in
     elim (cases_Bool (replaces d older)) [
       | inl is ↦
-          let step = merged_replaced d older more is in
+          let step = placed_replaced d older more is in
           ap (last_at a) step
-          ∙ merged_gives g a more (replacing d older) rest (replacing_loggable g d older is own its) (rest_ordered older more order) (subst (λ (l : List Delta). AreOrdered l) step merged_order) (away_still a d older is away)
+          ∙ placed_gives g a more (replacing d older) rest (replacing_loggable g d older is own its) (rest_ordered older more order) (subst (λ (l : List Delta). AreOrdered l) step merged_order) (away_still a d older is away)
           ∙ replaced_gives g a d older more is own its rest order away
       | inr other ↦ elim (cases_Bool (ltb d.home older.home)) [
         | inl before ↦
-            let step = merged_before d older more other before in
+            let step = placed_before d older more other before in
             ap (last_at a) step
             ∙ given_first f d (older ∷ more)
             ∙ sym (before_gives g a d older more other (ltb-true d.home older.home before) own all order (subst (λ (l : List Delta). AreOrdered l) step merged_order))
         | inr after ↦
-            let step = merged_after d older more other after in
+            let step = placed_after d older more other after in
             ap (last_at a) step
-            ∙ given_first f older (merged more d)
+            ∙ given_first f older (placed more d)
             ∙ ap (λ (o : Option ℕ). later o (given_at a older))
-            (merged_gives g a more d rest own (rest_ordered older more order) (rest_ordered older (merged more d) (subst (λ (l : List Delta). AreOrdered l) step merged_order)) away)
+            (placed_gives g a more d rest own (rest_ordered older more order) (rest_ordered older (placed more d) (subst (λ (l : List Delta). AreOrdered l) step merged_order)) away)
             ∙ later_later (given_at a d) (last_at a more) (given_at a older)
             ∙ ap (λ (o : Option ℕ). later (given_at a d) o) (sym (given_first f older more))
       ]
     ]
+
+-- a list of elements that all pass the test
+all_kept : {X : Type 0} (p : X → Bool) (xs : List X) → All (λ x. p x ≡ true) xs → filter p xs ≡ xs
+all_kept p [] all = refl
+all_kept {X} p (x ∷ xs) all =
+    ap (λ (test : Bool). cond test (x ∷ filter p xs) (filter p xs)) (All-head (λ x. p x ≡ true) x xs all) ∙ ap (λ (l : List X). x ∷ l) (all_kept p xs (All-tail (λ x. p x ≡ true) x xs all))
+
+-- where all deltas stand beside the new one, that is put in its place among them
+merged_placed : (deltas : List Delta) (d : Delta) → All (λ older. stands_beside d older ≡ true) deltas → merged deltas d ≡ placed deltas d
+unfolding merged
+merged_placed deltas d beside = ap (λ (l : List Delta). placed l d) (all_kept (stands_beside d) deltas beside)
+
+-- the deltas with one more merged into them give what that gives, or else what they gave
+pub merged_gives : (g : Geometry) (a : ℕ) (deltas : List Delta) (d : Delta) → All (IsLoggable g) deltas → IsLoggable g d → AreOrdered deltas → AreOrdered (merged deltas d)
+    → All (λ older. stands_beside d older ≡ true) deltas → (is_cancel d.kind ≡ true → d.home / 4096 ≡ a / 4096 → ⊥) → last_at a (merged deltas d) ≡ later (given_at a d) (last_at a deltas)
+merged_gives g a deltas d all own order merged_order beside away =
+    let same = merged_placed deltas d beside in
+    ap (last_at a) same ∙ placed_gives g a deltas d all own order (subst (λ (l : List Delta). AreOrdered l) same merged_order) away

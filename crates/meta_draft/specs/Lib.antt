@@ -1,0 +1,4 @@
+pub mod Deltas
+pub mod Drafted
+pub mod Records
+pub mod OnBlock

@@ -1,6 +1,12 @@
-//! What is laid by deltas that were merged (`docs/DEFINITIONS.md`, "What a changing store tells").
+//! The change that a call is making, over a store that doesn't have it yet (`docs/definitions/changes.md`, "Drafts").
 #![tactic(auto)]
 
+mod blocks;
+mod draft;
 mod laws;
 
-pub use laws::merged_laid;
+pub use draft::Draft;
+pub use laws::{drafted_block, merged_bytes, merged_laid};
+
+#[cfg(test)]
+mod tests;
