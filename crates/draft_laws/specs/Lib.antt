@@ -1,0 +1,4 @@
+pub mod Laying
+pub mod Follows
+pub mod Drafts
+pub mod Freeing
