@@ -1,0 +1,6 @@
+use Rattle.history_model.specs.Edits.{edited}
+use Rattle.dir_ops.proofs.edits.remove.Goals as goal
+
+pub returns-clause-drawn : goal.returns-clause-drawn
+unfolding edited
+returns-clause-drawn g c = c.change_slot.ensures.drawn

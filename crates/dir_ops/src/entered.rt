@@ -1,0 +1,99 @@
+//! Names that are entered in a directory.
+ghost use Rattle.std.specs.Prelude.{◌≡◌, ◌≢◌, ◌<◌, ◌≤◌, ◌+◌, true, OnOk, IsErrOf};
+ghost use Rattle.lufs_base.specs.Name.{IsName};
+ghost use Rattle.volume_model.specs.Log.{delta_bytes};
+ghost use Rattle.sector_disk.specs.Disk.{FailsJustAt};
+ghost use Rattle.history_model.specs.Edits.{Enter, edited};
+ghost use Rattle.meta_store.specs.Store.{IsUnchanged};
+ghost use Rattle.meta_store.specs.Changing.{IsKept};
+ghost use Rattle.meta_store.specs.declared.error.StoreError.TheVariants.{Disk};
+ghost use Rattle.dir_ops.specs.Directories.{serves, PutsName};
+ghost use Rattle.dir_ops.specs.declared.directory.Wanted.TheVariants.{Roomy};
+ghost use Rattle.dir_ops.specs.Edits.{IsEntered};
+
+use crate::directory::{Directory, Found, Wanted};
+use crate::growth::grow;
+use dir_blocks::Chunk;
+use lufs_base::{BlockNo, Ino, Mem, Name};
+use meta_draft::Draft;
+use meta_store::{MetaRead, StoreError};
+use std::alloc::Global;
+
+// Enters the name in a chunk that has room.
+fn enter_in(
+    alloc: Global,
+    draft: &mut Draft,
+    directory: &Directory,
+    found: Found,
+    name: Name,
+    i: Ino,
+) -> Result<(), Mem>
+    requires room { serves Roomy name found.chunk ≡ true }
+    requires allowed { IsName name }
+    requires number { i.0 ≢ 0 }
+    ensures ok { OnOk result (PutsName directory.now found name i.0 draft.old.change draft.new.change) }
+    ensures growth { delta_bytes draft.new.change.deltas ≤ delta_bytes draft.old.change.deltas + 528 }
+{
+    let mut chunk = found.chunk;
+    chunk.put(name, i)?;
+    directory.put(alloc, draft, found.place, &chunk)
+}
+
+// The same for an inode that has a number.
+fn enter_some<S: MetaRead>(
+    alloc: Global,
+    draft: &mut Draft,
+    store: &mut S,
+    dir: Ino,
+    name: &Name,
+    i: Ino,
+    fresh: &[BlockNo],
+) -> Result<(), StoreError>
+    requires allowed { IsName name.now }
+    requires number { i.0 ≢ 0 }
+    ensures drawn { IsEntered (S.store store.old) draft.old.change draft.new.change dir.0 name.now fresh.now (edited (Enter dir.0 name.now i.0)) result }
+    ensures growth { delta_bytes draft.new.change.deltas ≤ delta_bytes draft.old.change.deltas + 724 }
+    ensures unchanged { IsUnchanged (S.store store.old) (S.store store.new) }
+    ensures kept { IsKept (S.changing store.old) (S.changing store.new) }
+    ensures failure { FailsJustAt (IsErrOf result Disk) (S.store store.old).disk (S.store store.new).disk }
+{
+    let g = *store.geometry();
+    let Some(directory) = Directory::open(alloc, draft, store, dir)? else {
+        return Ok(());
+    };
+    let found = directory.find(alloc, draft, store, Wanted::Roomy, name)?;
+    let name = Name::from_slice(alloc, name.as_slice())?;
+    match found {
+        Some(found) => enter_in(alloc, draft, &directory, found, name, i)?,
+        None => {
+            let chunk = Chunk::of_one(alloc, name, i)?;
+            grow(alloc, draft, &g, dir, &directory, &chunk, fresh)?;
+        }
+    }
+    Ok(())
+}
+
+/// Enters a name for inode `i`, from 1 on, in directory `dir`: in the first chunk with room, or in a new chunk. `fresh`
+/// has just the blocks that are wanted for it: a block of the directory, and then a pointer block. Where the directory
+/// can't have one chunk more, or the blocks are others, nothing changes. After an `Err` the draft is of no use.
+pub fn enter<S: MetaRead>(
+    alloc: Global,
+    draft: &mut Draft,
+    store: &mut S,
+    dir: Ino,
+    name: &Name,
+    i: Ino,
+    fresh: &[BlockNo],
+) -> Result<(), StoreError>
+    requires allowed { IsName name.now }
+    ensures drawn { i.0 ≢ 0 → IsEntered (S.store store.old) draft.old.change draft.new.change dir.0 name.now fresh.now (edited (Enter dir.0 name.now i.0)) result }
+    ensures growth { delta_bytes draft.new.change.deltas ≤ delta_bytes draft.old.change.deltas + 724 }
+    ensures unchanged { IsUnchanged (S.store store.old) (S.store store.new) }
+    ensures kept { IsKept (S.changing store.old) (S.changing store.new) }
+    ensures failure { FailsJustAt (IsErrOf result Disk) (S.store store.old).disk (S.store store.new).disk }
+{
+    if i.0 == 0 {
+        return Ok(());
+    }
+    enter_some(alloc, draft, store, dir, name, i, fresh)
+}
