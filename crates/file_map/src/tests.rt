@@ -1,0 +1,154 @@
+//! A file with holes, direct blocks and a pointer block, read through a draft.
+ghost use Rattle.std.specs.Prelude.{◌≡◌, ◌≤◌, ◌+◌, length, IfOk};
+ghost use Rattle.history_model.specs.FileBytes.{greatest_size};
+
+use crate::{blocks_needed, map};
+use lufs_base::{BlockNo, Geometry, Ino, Mem};
+use meta_draft::Draft;
+use meta_store::{LaidDeltas, PlainStore, ReplayedDisk, StoreError};
+use sector_disk::{Disk, Fail, MemDisk};
+use std::alloc::Global;
+use volume_model::TxList;
+
+/// A volume of 99 blocks: inode block 36, and body blocks from 37 on.
+const SMALLEST: Geometry = Geometry {
+    version: 1,
+    groups: 1,
+    bpg: 64,
+    ipg: 32,
+    log: 256,
+};
+
+/// Numbers of 32 bits that stand in a block, from one place on: the block, which of its numbers the first of
+/// them is, and the numbers. The record of inode i begins with number 32 * i of the inode block.
+type Words<'a> = (u32, u32, &'a [u32]);
+
+/// Inode 3 is a file of 14 blocks: at 0 block 38, at 11 block 39, and at 13 block 41, by pointer block 40. Inode 4 is
+/// a file of one byte, in block 42, and inode 5 an empty one.
+const MADE: &[Words] = &[
+    (36, 96, &[0x81a4_0001, 0, 0, 0, 0, 57344, 0, 1000, 38]),
+    (36, 115, &[39, 40, 0, 0, 4]),
+    (36, 128, &[0x81a4_0001, 0, 0, 0, 0, 1, 0, 1000, 42]),
+    (36, 151, &[1]),
+    (36, 160, &[0x81a4_0001, 0, 0, 0, 0, 0, 0, 1000]),
+    (40, 1, &[41]),
+];
+
+/// What is asked and answered of the block at an index.
+type Mapped = (u32, u32, Option<u32>);
+
+/// What is asked and answered of bytes: the inode, the first byte, how many, the indexes, and the pointer blocks.
+type Lacks<'a> = (u32, u64, u64, &'a [u32], u32);
+
+// Puts the numbers into the image, as far as it goes.
+fn put(image: &mut [u8], words: &Words) {
+    let (block, first, numbers) = *words;
+    let mut at = 4096 * block as usize + 4 * first as usize;
+    for number in numbers {
+        for byte in number.to_be_bytes() {
+            if let Some(place) = image.get_mut(at) {
+                *place = byte;
+            }
+            at = at.saturating_add(1);
+        }
+    }
+}
+
+fn image_of(alloc: Global) -> Result<Vec<u8>, Mem>
+    ensures { IfOk result (λ image. length image.items ≡ 405504) }
+{
+    let mut image = vec![in alloc; 0u8; 405_504]?;
+    for words in MADE {
+        put(&mut image, words);
+    }
+    if image.len() != 405_504 {
+        return Err(Mem);
+    }
+    Ok(image)
+}
+
+#[test]
+fn blocks_mapped(rt: HostRuntime) -> Result<(), std::test::Fail> {
+    let alloc = rt.alloc();
+    let mut store = PlainStore::new(&SMALLEST, image_of(alloc)?);
+    let draft = Draft::new(alloc);
+    let cases: [Mapped; 9] = [
+        (3, 0, Some(38)),
+        (3, 1, None),
+        (3, 11, Some(39)),
+        (3, 12, None),
+        (3, 13, Some(41)),
+        (3, 1036, None),
+        (4, 0, Some(42)),
+        (5, 0, None),
+        (6, 0, None),
+    ];
+    for (i, index, block) in cases {
+        assert_eq!(rt;
+            map(alloc, &draft, &mut store, Ino(i), index),
+            Ok(block.map(BlockNo)),
+            "inode {i}, index {index}"
+        );
+    }
+    assert_eq!(rt; map(alloc, &draft, &mut store, Ino(40), u32::MAX), Ok(None));
+    Ok(())
+}
+
+#[test]
+fn blocks_lacking(rt: HostRuntime) -> Result<(), std::test::Fail> {
+    let alloc = rt.alloc();
+    let mut store = PlainStore::new(&SMALLEST, image_of(alloc)?);
+    let draft = Draft::new(alloc);
+    let cases: [Lacks; 7] = [
+        (3, 0, 8193, &[1, 2], 0),
+        (3, 4095, 1, &[], 0),
+        (3, 45056, 12289, &[12, 14], 0),
+        (4, 0, 49152, &[1, 2, 3, 4, 5, 6, 7, 8, 9, 10, 11], 0),
+        (4, 49151, 2, &[11, 12], 1),
+        (5, 4239360, 4096, &[1035], 1),
+        (5, 4096, 0, &[], 0),
+    ];
+    for (i, offset, count, indexes, pointers) in cases {
+        if offset > 4_243_456 || count > 4_243_456 - offset {
+            continue;
+        }
+        let needed = blocks_needed(alloc, &draft, &mut store, Ino(i), offset, count)?;
+        assert_eq!(rt;
+            (needed.indexes.as_slice(), needed.pointers),
+            (indexes, pointers),
+            "inode {i}, byte {offset}"
+        );
+    }
+    Ok(())
+}
+
+// The block at an index of inode 3, where these calls of the disk fail.
+fn mapped_after(alloc: Global, index: u32, fails: &[Fail]) -> Result<Option<BlockNo>, StoreError> {
+    let disk = MemDisk::new(image_of(alloc)?, Vec::from_slice(alloc, fails)?);
+    let laid = LaidDeltas::new(alloc, &TxList::new(alloc))?;
+    if disk.sectors() < 792 {
+        return Err(StoreError::Mem);
+    }
+    let mut store = ReplayedDisk::over(disk, &SMALLEST, laid);
+    map(alloc, &Draft::new(alloc), &mut store, Ino(3), index)
+}
+
+#[test]
+fn reads_that_fail(rt: HostRuntime) -> Result<(), std::test::Fail> {
+    let alloc = rt.alloc();
+    // The pointer block is read only where the index needs it.
+    for (index, reads, block) in [(11, 1, 39), (13, 2, 41)] {
+        for n in 1..=reads {
+            assert_eq!(rt;
+                mapped_after(alloc, index, &[Fail::Read(n)]),
+                Err(StoreError::Disk),
+                "{index}, {n}"
+            );
+        }
+        assert_eq!(rt;
+            mapped_after(alloc, index, &[Fail::Read(reads + 1)]),
+            Ok(Some(BlockNo(block)))
+        );
+    }
+    Ok(())
+}
