@@ -1,0 +1,5 @@
+pub mod DigitLemmas
+pub mod ArgumentLemmas
+pub mod RequestLemmas
+pub mod PutLemmas
+pub mod LengthLemmas
