@@ -2,7 +2,7 @@
 use Rattle.std.proofs.Common.{◌≡◌, ◌<◌, ◌≤◌, inl, inr, ℕ, ◌+◌, ◌-◌, ◌*◌, ◌/◌, ◌%◌, Bool, true, false, not, ◌&&◌, ◌||◌, cond, List, [], ◌∷◌, length, map, Option, Some, None, refl, sym, ap, ◌∙◌, arith}
 use Rattle.std.specs.Prelude.{slice_get, option_map, is_some, sum_by}
 use Rattle.std.specs.List.{count_by, range_with_len}
-use Rattle.std.specs.Option.{option_map_or}
+use Rattle.std.specs.Option.{option_flatten, option_map_or}
 use Rattle.std.proofs.Math.Bool.{beq}
 use Rattle.std.proofs.Math.Nat.{div-lt_iff_lt-mul}
 use Rattle.std.proofs.lemmas.Bool.{cases_Bool, cases_lt, le-leb, true≢false}
@@ -20,11 +20,14 @@ use Rattle.volume_laws.proofs.FreeBits.{clear_counted}
 use Rattle.cyl_groups.specs.declared.group.Group.{Group}
 use Rattle.cyl_groups.specs.Group.{record_of}
 use Rattle.fsck_core.specs.declared.claims.Claims.{Claims}
+use Rattle.fsck_core.specs.declared.inodes.Brief.{Brief}
 use Rattle.fsck_core.specs.Bits.{block_bit_among, has_other_bit}
 use Rattle.fsck_core.specs.Claimed.{HasClaimed}
+use Rattle.fsck_core.specs.Inodes.{brief_of, AreBriefs}
 use Rattle.fsck_core.specs.Tables.{AreGroups, AreInodes}
 use Rattle.fsck_core.proofs.ClaimBridges.{bit_of_claims}
-use Rattle.fsck_core.proofs.RecordSteps.{record_in, used_in}
+use Rattle.fsck_core.proofs.KeptInodes.{briefs_size, brief_at}
+use Rattle.fsck_core.proofs.RecordSteps.{record_in, used_by_records}
 
 -- an inode, and a block from the first group on, lies in a group
 pub group_of_inode : (g : Geometry) (i : ℕ) → IsGeometry g → i < inodes_of g → i / g.ipg < g.groups
@@ -67,14 +70,21 @@ used_of_map : (blocks : Blocks) (d : Option Dinode) → is_some (option_map (use
 used_of_map blocks None = refl
 used_of_map blocks (Some u) = refl
 
+used_brief : (d : Option Dinode) → is_some (brief_of d) ≡ is_some d
+used_brief None = refl
+used_brief (Some u) = refl
+
 -- the test of an inode's bit, where its number is not 0 or 1
-pub bad_inode_bit : (g : Geometry) (blocks : Blocks) (inodes : List (Option Dinode)) (i : ℕ) (d : Option Dinode) (bit used : Bool) → AreInodes g blocks inodes
-    → i < inodes_of g → slice_get inodes i ≡ Some d → 2 ≤ i → bit ≡ inode_bit g (reading_of g blocks) i → used ≡ is_some d
+pub bad_inode_bit : (g : Geometry) (blocks : Blocks) (briefs : List (Option Brief)) (i : ℕ) (brief : Option Brief) (bit used : Bool) → AreBriefs g blocks briefs → length briefs ≡ inodes_of g
+    → slice_get briefs i ≡ Some brief → 2 ≤ i → bit ≡ inode_bit g (reading_of g blocks) i → used ≡ is_some brief
     → not (beq bit used) ≡ has_bad_inode_bit g (reading_of g blocks) [] i
-bad_inode_bit g blocks inodes i d bit used so inside here high is_bit is_used =
+bad_inode_bit g blocks briefs i brief bit used are size here high is_bit is_used =
     let r = reading_of g blocks in
+    let d = option_flatten (slice_get are.inodes i) in
+    let same : brief ≡ brief_of d = ap (λ (o : Option (Option Brief)). option_flatten o) (sym here) ∙ brief_at g blocks briefs i are in
+    let there = used_by_records g blocks are.inodes i are.records (briefs_size g blocks briefs are ∙ size) in
     let known : used ≡ is_some (used_at r i) =
-    is_used ∙ sym (used_of_map blocks d) ∙ sym (ap (λ (o : Option UsedInode). is_some o) (used_in g blocks inodes i d so inside here)) in
+    is_used ∙ ap (λ (o : Option Brief). is_some o) same ∙ used_brief d ∙ sym (used_of_map blocks d) ∙ sym (ap (λ (o : Option UsedInode). is_some o) there) in
     apart bit used ∙ ap (λ (p : Bool). differ p used) is_bit ∙ ap (differ (inode_bit g r i)) (known ∙ sym (or_nothing (is_some (used_at r i))))
     ∙ ap (λ (t : Bool). t && differ (inode_bit g r i) (is_some (used_at r i) || false)) (sym (le-leb 2 i high))
 
@@ -134,10 +144,10 @@ used_state blocks None = refl
 used_state blocks (Some u) = refl
 
 -- the inodes in use, counted over their records
-pub used_counted : (g : Geometry) (blocks : Blocks) (inodes : List (Option Dinode)) → AreInodes g blocks inodes → length inodes ≡ inodes_of g
+records_counted : (g : Geometry) (blocks : Blocks) (inodes : List (Option Dinode)) → AreInodes g blocks inodes → length inodes ≡ inodes_of g
     → count_by (λ d. is_some d) inodes ≡ count_by (λ state. is_some (used_of state)) (reading_of g blocks).inodes
 unfolding reading_of
-used_counted g blocks inodes so size =
+records_counted g blocks inodes so size =
     let of_record : Option (Option Dinode) → ℕ = λ o. cond (is_some (used_of (state_of blocks o))) 1 0 in
     sym (counted_alike (λ d. is_some (used_of (state_of blocks (Some d)))) (λ d. is_some d) inodes (used_state blocks))
     ∙ sym (sum_of_map of_record (λ d. Some d) inodes)
@@ -145,6 +155,13 @@ used_counted g blocks inodes so size =
     ∙ ap (λ (n : ℕ). sum_by of_record (map (inode_at g blocks) (range_with_len 0 n))) size
     ∙ sum_of_map of_record (inode_at g blocks) (range_with_len 0 (inodes_of g))
     ∙ sym (sum_of_map (λ state. cond (is_some (used_of state)) 1 0) (state_at g blocks) (range_with_len 0 (inodes_of g)))
+
+pub used_counted : (g : Geometry) (blocks : Blocks) (briefs : List (Option Brief)) → AreBriefs g blocks briefs → length briefs ≡ inodes_of g
+    → count_by (λ b. is_some b) briefs ≡ count_by (λ state. is_some (used_of state)) (reading_of g blocks).inodes
+used_counted g blocks briefs are size =
+    ap (count_by (λ b. is_some b)) are.are ∙ sum_of_map (λ b. cond (is_some b) 1 0) brief_of are.inodes
+    ∙ counted_alike (λ d. is_some (brief_of d)) (λ d. is_some d) are.inodes used_brief
+    ∙ records_counted g blocks are.inodes are.records (briefs_size g blocks briefs are ∙ size)
 
 -- the counts of a reading
 pub counts_are : (g : Geometry) (r : Reading) (inodes blocks free : ℕ) → inodes ≡ count_by (λ state. is_some (used_of state)) r.inodes

@@ -16,69 +16,61 @@ use Rattle.volume_model.specs.Format.{Blocks, inodes_of, is_directory}
 use Rattle.volume_model.specs.Sound.{Reading, Names, UsedInode, reading_of, inodes_in, used_at, used_of, used_inode, slots_of, names_in_reading, slots_at, parent_at, is_used_in, names_unused, is_directory_in, claims_of, has_bad_fields, has_bad_chunk, has_bad_parent, has_bad_links, all_kinds, first_of_kind, finding_of}
 use Rattle.volume_laws.proofs.ClaimFacts.{length-inodes}
 use Rattle.cyl_groups.specs.declared.group.Group.{Group}
+use Rattle.fsck_core.specs.declared.inodes.Brief.{Brief}
 use Rattle.fsck_core.specs.declared.stop.Stop.{Stop}
 use Rattle.fsck_core.specs.declared.survey.Survey.{Survey}
 use Rattle.fsck_core.specs.Answers.{unless_found, IsPart}
 use Rattle.fsck_core.specs.declared.stop.Stop.TheVariants.{Found}
 use Rattle.fsck_core.specs.Claimed.{HasClaimed}
 use Rattle.fsck_core.specs.NameTables.{HasNames}
-use Rattle.fsck_core.specs.Survey.{IsSurvey, blocks_claimed_before}
-use Rattle.fsck_core.specs.Tables.{AreGroups, AreInodes}
+use Rattle.fsck_core.specs.Survey.{IsSurvey}
+use Rattle.fsck_core.specs.Inodes.{brief_of, AreBriefs}
+use Rattle.fsck_core.specs.Tables.{AreGroups}
 use Rattle.fsck_core.specs.StepsUp.{is_directory_record}
-use Rattle.fsck_core.proofs.ClaimBridges.{blocks_before-all, twice_of_claims}
+use Rattle.fsck_core.proofs.ClaimBridges.{blocks_before, blocks_before-all, twice_of_claims}
+use Rattle.fsck_core.proofs.ClaimParts.{claimed_in_parts}
+use Rattle.fsck_core.proofs.KeptInodes.{briefs_size, brief_at}
 use Rattle.fsck_core.proofs.Findings.{NoneOf, none_in_range, fails_in_range, found_at_kind}
-use Rattle.fsck_core.proofs.RecordSteps.{used_in, no_bad_group, no_bad_inode}
-
--- past the end of the list no inode is in use
-used_past : (g : Geometry) (blocks : Blocks) (i : ℕ) → inodes_of g ≤ i → used_at (reading_of g blocks) i ≡ None
-used_past g blocks i past = elim (slice_get_cases (reading_of g blocks).inodes i).1 [
-  | inl here ↦ absurd (omega (arith, past, length-inodes g blocks, slice_get_within (reading_of g blocks).inodes i here.0 here.2))
-  | inr end ↦ ap (option_and_then used_of) end.1
-]
-
--- inode i is in use just where its record is there
-pub used_by_records : (g : Geometry) (blocks : Blocks) (inodes : List (Option Dinode)) (i : ℕ) → AreInodes g blocks inodes → length inodes ≡ inodes_of g
-    → used_at (reading_of g blocks) i ≡ option_map (used_inode blocks) (option_flatten (slice_get inodes i))
-used_by_records g blocks inodes i so size = elim (slice_get_cases inodes i).1 [
-  | inl here ↦
-      used_in g blocks inodes i here.0 so (omega (arith, size, slice_get_within inodes i here.0 here.2)) here.2
-      ∙ ap (λ (o : Option (Option Dinode)). option_map (used_inode blocks) (option_flatten o)) (sym here.2)
-  | inr past ↦
-      used_past g blocks i (omega (arith, size, past.0))
-      ∙ ap (λ (o : Option (Option Dinode)). option_map (used_inode blocks) (option_flatten o)) (sym past.1)
-]
+use Rattle.fsck_core.proofs.RecordSteps.{used_past, used_by_records, no_bad_group, no_bad_inode}
 
 directory_case : (blocks : Blocks) (test : Bool) (slots : List Slot) → option_map_or (λ o. is_some o) (Some (if test then Some slots else None)) false ≡ test
 directory_case blocks true slots = refl
 directory_case blocks false slots = refl
 
 directory_of_used : (blocks : Blocks) (d : Option Dinode)
-    → option_map_or is_some (option_map slots_of (option_map (used_inode blocks) d)) false ≡ is_directory_record d
+    → option_map_or is_some (option_map slots_of (option_map (used_inode blocks) d)) false ≡ is_directory_record (brief_of d)
 directory_of_used blocks None = refl
 directory_of_used blocks (Some d) = directory_case blocks (is_directory d.mode) _
 
+-- the records of which these are the briefs
+records_size : (g : Geometry) (blocks : Blocks) (briefs : List (Option Brief)) (are : AreBriefs g blocks briefs) → length briefs ≡ inodes_of g → length are.inodes ≡ inodes_of g
+records_size g blocks briefs are size = briefs_size g blocks briefs are ∙ size
+
 -- it is a directory just where the record is one
-pub directory_by_records : (g : Geometry) (blocks : Blocks) (inodes : List (Option Dinode)) (i : ℕ) → AreInodes g blocks inodes → length inodes ≡ inodes_of g
-    → is_directory_in (names_in_reading (reading_of g blocks)) i ≡ is_directory_record (option_flatten (slice_get inodes i))
-directory_by_records g blocks inodes i so size =
-    ap (λ (o : Option UsedInode). option_map_or is_some (option_map slots_of o) false) (used_by_records g blocks inodes i so size)
-    ∙ directory_of_used blocks (option_flatten (slice_get inodes i))
+pub directory_by_records : (g : Geometry) (blocks : Blocks) (briefs : List (Option Brief)) (i : ℕ) → AreBriefs g blocks briefs → length briefs ≡ inodes_of g
+    → is_directory_in (names_in_reading (reading_of g blocks)) i ≡ is_directory_record (option_flatten (slice_get briefs i))
+directory_by_records g blocks briefs i are size =
+    ap (λ (o : Option UsedInode). option_map_or is_some (option_map slots_of o) false) (used_by_records g blocks are.inodes i are.records (records_size g blocks briefs are size))
+    ∙ directory_of_used blocks (option_flatten (slice_get are.inodes i))
+    ∙ ap is_directory_record (sym (brief_at g blocks briefs i are))
 
 inode_of_used : (blocks : Blocks) (d : Option Dinode) → option_map (λ u. u.inode) (option_map (used_inode blocks) d) ≡ d
 inode_of_used blocks None = refl
 inode_of_used blocks (Some d) = refl
 
-pub inode_by_records : (g : Geometry) (blocks : Blocks) (inodes : List (Option Dinode)) (i : ℕ) → AreInodes g blocks inodes → length inodes ≡ inodes_of g
-    → option_map (λ u. u.inode) (used_at (reading_of g blocks) i) ≡ option_flatten (slice_get inodes i)
-inode_by_records g blocks inodes i so size =
-    ap (λ (o : Option UsedInode). option_map (λ u. u.inode) o) (used_by_records g blocks inodes i so size) ∙ inode_of_used blocks (option_flatten (slice_get inodes i))
+pub brief_by_records : (g : Geometry) (blocks : Blocks) (briefs : List (Option Brief)) (i : ℕ) → AreBriefs g blocks briefs → length briefs ≡ inodes_of g
+    → brief_of (option_map (λ u. u.inode) (used_at (reading_of g blocks) i)) ≡ option_flatten (slice_get briefs i)
+brief_by_records g blocks briefs i are size =
+    ap (λ (o : Option UsedInode). brief_of (option_map (λ u. u.inode) o)) (used_by_records g blocks are.inodes i are.records (records_size g blocks briefs are size))
+    ∙ ap brief_of (inode_of_used blocks (option_flatten (slice_get are.inodes i)))
+    ∙ sym (brief_at g blocks briefs i are)
 
 -- the root, by its record
-pub root_by_records : (g : Geometry) (blocks : Blocks) (inodes : List (Option Dinode)) (is : Bool) (found : Option ℕ) → AreInodes g blocks inodes → length inodes ≡ inodes_of g
-    → is_directory_record (option_flatten (slice_get inodes 2)) ≡ is → (if not is then Some 2 else None) ≡ found
+pub root_by_records : (g : Geometry) (blocks : Blocks) (briefs : List (Option Brief)) (is : Bool) (found : Option ℕ) → AreBriefs g blocks briefs → length briefs ≡ inodes_of g
+    → is_directory_record (option_flatten (slice_get briefs 2)) ≡ is → (if not is then Some 2 else None) ≡ found
     → found ≡ first_of_kind g (reading_of g blocks) [] Root
-root_by_records g blocks inodes is found so size record_is found_is =
-    sym (ap (λ (b : Bool). if not b then Some 2 else None) (directory_by_records g blocks inodes 2 so size ∙ record_is) ∙ found_is)
+root_by_records g blocks briefs is found are size record_is found_is =
+    sym (ap (λ (b : Bool). if not b then Some 2 else None) (directory_by_records g blocks briefs 2 are size ∙ record_is) ∙ found_is)
 
 -- where no directory names an unused inode, the second slot of each names an inode that there is
 used_below : (g : Geometry) (blocks : Blocks) (i : ℕ) → is_used_in (names_in_reading (reading_of g blocks)) i ≡ true → i < inodes_of g
@@ -137,23 +129,24 @@ none_more g r kinds kind found none first is =
     (All-cons (λ k. first_of_kind g r [] k ≡ None) kind [] (sym first ∙ is) (All-nil (λ k. first_of_kind g r [] k ≡ None)))
 
 -- the kinds that were looked for as the records were read
-pub none_of_records : (g : Geometry) (blocks : Blocks) (groups : List Group) (inodes : List (Option Dinode)) (s : Survey) → AreGroups g blocks groups → length groups ≡ g.groups
-    → AreInodes g blocks inodes → length inodes ≡ inodes_of g → IsSurvey g (reading_of g blocks) (inodes_of g) s
+pub none_of_records : (g : Geometry) (blocks : Blocks) (groups : List Group) (briefs : List (Option Brief)) (s : Survey) → AreGroups g blocks groups → length groups ≡ g.groups
+    → AreBriefs g blocks briefs → length briefs ≡ inodes_of g → IsSurvey g (reading_of g blocks) (inodes_of g) s
     → NoneOf g (reading_of g blocks) (of_groups ∷ (of_inodes ∷ (Fields ∷ [])))
-none_of_records g blocks groups inodes s are_groups groups_size are_inodes size seen =
+none_of_records g blocks groups briefs s are_groups groups_size are size seen =
     let r = reading_of g blocks in
     let P : Kind → Type 0 = λ k. first_of_kind g r [] k ≡ None in
     let fields : first_of_kind g r [] Fields ≡ None =
     ap (λ (n : ℕ). find (has_bad_fields g r) (range_with_len 0 n)) (length-inodes g blocks) ∙ none_in_range (has_bad_fields g r) (inodes_of g) seen.fields in
     All-cons P of_groups (of_inodes ∷ (Fields ∷ [])) (no_bad_group g blocks groups are_groups groups_size)
-    (All-cons P of_inodes (Fields ∷ []) (no_bad_inode g blocks inodes are_inodes size) (All-cons P Fields [] fields (All-nil P)))
+    (All-cons P of_inodes (Fields ∷ []) (no_bad_inode g blocks are.inodes are.records (records_size g blocks briefs are size)) (All-cons P Fields [] fields (All-nil P)))
 
 -- what was claimed, of a reading
 pub claimed_by_all : (g : Geometry) (blocks : Blocks) (s : Survey) → IsSurvey g (reading_of g blocks) (inodes_of g) s
     → HasClaimed (blocks_of g) (map (λ claim. claim.block) (claims_of (reading_of g blocks))) s.claims
 claimed_by_all g blocks s seen =
     let r = reading_of g blocks in
-    subst (λ (l : List ℕ). HasClaimed (blocks_of g) l s.claims) (ap (blocks_claimed_before r) (sym (length-inodes g blocks)) ∙ blocks_before-all r) seen.claimed
+    subst (λ (l : List ℕ). HasClaimed (blocks_of g) l s.claims) (ap (blocks_before r) (sym (length-inodes g blocks)) ∙ blocks_before-all r)
+    (claimed_in_parts g r (inodes_of g) (blocks_of g) s.claims seen.claimed)
 
 pub twice_first : (g : Geometry) (blocks : Blocks) (s : Survey) → IsSurvey g (reading_of g blocks) (inodes_of g) s
     → s.claims.twice ≡ first_of_kind g (reading_of g blocks) [] Twice
@@ -184,27 +177,27 @@ parents_below g blocks s n seen once right used size i below =
     omega (arith, found, size)
 
 -- the first directory without its one place
-pub parent_first : (g : Geometry) (blocks : Blocks) (inodes : List (Option Dinode)) (s : Survey) (found : Option ℕ) → AreInodes g blocks inodes → length inodes ≡ inodes_of g
+pub parent_first : (g : Geometry) (blocks : Blocks) (briefs : List (Option Brief)) (s : Survey) (found : Option ℕ) → AreBriefs g blocks briefs → length briefs ≡ inodes_of g
     → IsSurvey g (reading_of g blocks) (inodes_of g) s → s.claims.twice ≡ None → s.bad_chunk ≡ None → s.bad_name ≡ None
-    → ((m : Names) → HasNames (length inodes) (length inodes) m s.names
-    → ((i : ℕ) → i < length inodes → is_directory_in m i ≡ is_directory_record (option_flatten (slice_get inodes i)))
-    → ((i : ℕ) → i < length inodes → parent_at m i < length inodes)
-    → found ≡ find (has_bad_parent (length inodes) m) (range_with_len 0 (length inodes)))
+    → ((m : Names) → HasNames (length briefs) (length briefs) m s.names
+    → ((i : ℕ) → i < length briefs → is_directory_in m i ≡ is_directory_record (option_flatten (slice_get briefs i)))
+    → ((i : ℕ) → i < length briefs → parent_at m i < length briefs)
+    → found ≡ find (has_bad_parent (length briefs) m) (range_with_len 0 (length briefs)))
     → found ≡ first_of_kind g (reading_of g blocks) [] Parent
-parent_first g blocks inodes s found are_inodes size seen once right used says =
+parent_first g blocks briefs s found are size seen once right used says =
     let m = names_in_reading (reading_of g blocks) in
-    says m (names_of_all g blocks s (length inodes) seen once right (sym size)) (λ i below. directory_by_records g blocks inodes i are_inodes size)
-    (parents_below g blocks s (length inodes) seen once right used (sym size))
+    says m (names_of_all g blocks s (length briefs) seen once right (sym size)) (λ i below. directory_by_records g blocks briefs i are size)
+    (parents_below g blocks s (length briefs) seen once right used (sym size))
     ∙ ap (λ (n : ℕ). find (has_bad_parent n m) (range_with_len 0 n)) (size ∙ sym (length-inodes g blocks))
 
 -- the first inode with other links
-pub links_first : (g : Geometry) (blocks : Blocks) (inodes : List (Option Dinode)) (s : Survey) (found : Option ℕ) → AreInodes g blocks inodes → length inodes ≡ inodes_of g
+pub links_first : (g : Geometry) (blocks : Blocks) (briefs : List (Option Brief)) (s : Survey) (found : Option ℕ) → AreBriefs g blocks briefs → length briefs ≡ inodes_of g
     → IsSurvey g (reading_of g blocks) (inodes_of g) s → s.claims.twice ≡ None → s.bad_chunk ≡ None
-    → ((r : Reading) → inodes_in r ≡ length inodes
-    → ((i : ℕ) → i < inodes_in r → option_map (λ u. u.inode) (used_at r i) ≡ option_flatten (slice_get inodes i))
+    → ((r : Reading) → inodes_in r ≡ length briefs
+    → ((i : ℕ) → i < inodes_in r → brief_of (option_map (λ u. u.inode) (used_at r i)) ≡ option_flatten (slice_get briefs i))
     → HasNames (inodes_in r) (inodes_in r) (names_in_reading r) s.names
     → found ≡ find (has_bad_links r) (range_with_len 0 (inodes_in r)))
     → found ≡ first_of_kind g (reading_of g blocks) [] Links
-links_first g blocks inodes s found are_inodes size seen once right says =
-    says (reading_of g blocks) (length-inodes g blocks ∙ sym size) (λ i below. inode_by_records g blocks inodes i are_inodes size)
+links_first g blocks briefs s found are size seen once right says =
+    says (reading_of g blocks) (length-inodes g blocks ∙ sym size) (λ i below. brief_by_records g blocks briefs i are size)
     (names_of_all g blocks s (inodes_in (reading_of g blocks)) seen once right (sym (length-inodes g blocks)))

@@ -1,8 +1,11 @@
 -- The chunks of a directory, block by block.
-use Rattle.std.proofs.Common.{◌≡◌, ℕ, zero, suc, ◌+◌, ◌-◌, ◌*◌, ◌/◌, ◌%◌, ◌<◌, ◌≤◌, List, [], ◌∷◌, ◌++◌, take, drop, map, min, Bool, true, false, ◌&&◌, Option, Some, None, refl, ap, sym, subst, ◌∙◌, arith, append_assoc, append-nil, slice_index, if◌then◌else◌, ◌==◌, ne_eqb, unwrap_or, IfSome}
+use Rattle.std.proofs.Common.{◌≡◌, ℕ, zero, suc, ◌+◌, ◌-◌, ◌*◌, ◌/◌, ◌%◌, ◌<◌, ◌≤◌, List, [], ◌∷◌, ◌++◌, take, drop, map, min, Bool, true, false, ◌&&◌, Option, Some, None, refl, ap, sym, subst, ◌∙◌, arith, append_assoc, append-nil, length, length-drop, inl, inr, slice_index, if◌then◌else◌, ◌==◌, ne_eqb, unwrap_or, IfSome}
 use Rattle.std.specs.List.{list_all, range_with_len}
 use Rattle.std.specs.Option.{is_some}
+use Rattle.std.proofs.lemmas.List.{drop-drop, drop-take, take-take, take-append-le, drop-append-le, take_all}
+use Rattle.std.proofs.Math.Seq.{drop-append_seam}
 use Rattle.std.proofs.lemmas.List.FromFn.{map-range_with_len_more}
+use Rattle.std.proofs.lemmas.Bool.{cases_lt}
 use Rattle.std.proofs.lemmas.List.Folds.{list_all-append}
 use Rattle.std.proofs.lemmas.Grind.{flat_map-append}
 use Rattle.volume_model.specs.declared.directory.Slot.{Slot}
@@ -37,7 +40,7 @@ slots_more : (chunks more : List (Option (List Slot))) → slots_in_chunks (chun
 slots_more chunks more = flat_map-append (λ (chunk : Option (List Slot)). unwrap_or chunk []) chunks more
 
 -- a range in two parts
-range_parts : {X : Type 0} (f : ℕ → X) (a n m : ℕ) → map f (range_with_len a (n + m)) ≡ map f (range_with_len a n) ++ map f (range_with_len (a + n) m)
+pub range_parts : {X : Type 0} (f : ℕ → X) (a n m : ℕ) → map f (range_with_len a (n + m)) ≡ map f (range_with_len a n) ++ map f (range_with_len (a + n) m)
 range_parts f a zero m =
     let none : zero + m ≡ m = omega arith in
     let here : a ≡ a + zero = omega arith in
@@ -104,50 +107,60 @@ slots_in_block bytes k old before slots after is was now =
     ap slots_in_chunks is ∙ slots_more (chunks_in bytes k) (Some slots ∷ []) ∙ ap (λ (l : List Slot). done ++ l) (append-nil slots) in
     now ∙ ap (λ (l : List Slot). l ++ slots) was ∙ append_assoc old done slots ∙ ap (λ (l : List Slot). old ++ l) (sym new)
 
--- the chunks of a directory of n of them in its first k blocks
-abbrev pub first_chunks : Image → (numbers : List ℕ) → (k n : ℕ) → List (Option (List Slot))
-first_chunks image numbers k n = map (chunk_at (block image) numbers) (range_with_len 0 (min (8 * k) n))
+-- by the test of a chunk
+pub is_none_of : (chunk : Option (List Slot)) → is_some chunk ≡ false → chunk ≡ None
+is_none_of None test = refl
+is_none_of (Some slots) test = absurd (cc)
 
--- those of one block more
-block_more : (image : Image) (numbers : List ℕ) (k n count : ℕ) (bytes : List ℕ) → 8 * k < n → count ≡ min (n - 8 * k) 8 → 0 < slice_index numbers k → bytes ≡ block image (slice_index numbers k)
-    → first_chunks image numbers (k + 1) n ≡ first_chunks image numbers k n ++ chunks_in bytes count
-block_more image numbers k n count bytes more count_is there read =
-    let f = chunk_at (block image) numbers in
-    let so_far : min (8 * k) n ≡ 8 * k = omega arith in
-    let with_count : min (8 * (k + 1)) n ≡ 8 * k + count = omega arith in
-    let place : 0 + 8 * k ≡ 8 * k = omega arith in
-    ap (λ (t : ℕ). map f (range_with_len 0 t)) with_count ∙ range_parts f 0 (8 * k) count
-    ∙ ap (λ (t : ℕ). map f (range_with_len 0 t) ++ map f (range_with_len (0 + 8 * k) count)) (sym so_far)
-    ∙ ap (λ (t : ℕ). first_chunks image numbers k n ++ map f (range_with_len t count)) place
-    ∙ ap (λ l. first_chunks image numbers k n ++ l) (of_block (block image) numbers k count (omega arith) there ∙ ap (λ (l : List ℕ). chunks_in l count) (sym read))
+pub is_some_of : (chunk : Option (List Slot)) → is_some chunk ≡ true → chunk ≡ Some (unwrap_or chunk [])
+is_some_of None test = absurd (cc)
+is_some_of (Some slots) test = refl
 
-pub slots_of_block : (content now : Option Image) (numbers : List ℕ) (k n count : ℕ) (bytes : List ℕ) (before after : List Slot) → now ≡ content → 8 * k < n → count ≡ min (n - 8 * k) 8
-    → 0 < slice_index numbers k → IfSome now (λ image. bytes ≡ block image (slice_index numbers k))
-    → IfSome content (λ image. AreChunks (first_chunks image numbers k n) before)
-    → list_all is_some (chunks_in bytes count) ≡ true → after ≡ before ++ slots_in_chunks (chunks_in bytes count)
-    → IfSome content (λ image. AreChunks (first_chunks image numbers (k + 1) n) after)
-slots_of_block None now numbers k n count bytes before after same more count_is there read had all are = tt
-slots_of_block (Some image) now numbers k n count bytes before after same more count_is there read had all are =
-    let bytes_are = subst (λ (o : Option Image). IfSome o (λ i. bytes ≡ block i (slice_index numbers k))) same read in
-    let both = block_more image numbers k n count bytes more count_is there bytes_are in
-    let front = first_chunks image numbers k n in
-    let back = chunks_in bytes count in
-    record {
-      all = ap (list_all is_some) both ∙ all_more front back had.all all;
-      slots_are = are ∙ ap (λ (l : List Slot). l ++ slots_in_chunks back) had.slots_are ∙ sym (slots_more front back) ∙ ap slots_in_chunks (sym both);
-    }
+-- where the blocks of a directory stand one after the other, their chunks are those of the directory
+pub chunks_of_blocks : (blocks : Blocks) (numbers bytes : List ℕ) (n : ℕ)
+    → ((k : ℕ) → 8 * k < n → (0 < slice_index numbers k) × (take 4096 (drop (4096 * k) bytes) ≡ blocks (slice_index numbers k)))
+    → chunks_in bytes n ≡ map (chunk_at blocks numbers) (range_with_len 0 n)
+chunks_of_blocks blocks numbers bytes n are =
+    range_moved (λ (j : ℕ). chunk_of (take 512 (drop (512 * j) bytes))) (chunk_at blocks numbers) 0 0 n (λ j below.
+    let k = j / 8 in
+    let here = are k (omega arith) in
+    let number = slice_index numbers k in
+    let place : 512 * (0 + j) ≡ 4096 * k + 512 * (j % 8) = omega arith in
+    let m = 4096 - 512 * (j % 8) in
+    let size : 4096 ≡ 512 * (j % 8) + m = omega arith in
+    let fits : 512 ≤ m = omega arith in
+    let whole = drop (4096 * k) bytes in
+    let same : 0 + j ≡ j = omega arith in
+    let part : take 512 (drop (512 * (0 + j)) bytes) ≡ take 512 (drop (512 * (j % 8)) (blocks number)) =
+    ap (λ (p : ℕ). take 512 (drop p bytes)) place ∙ ap (take 512) (sym (drop-drop (512 * (j % 8)) (4096 * k) bytes))
+    ∙ sym (take-take 512 m (drop (512 * (j % 8)) whole) fits) ∙ ap (take 512) (sym (drop-take (512 * (j % 8)) m whole))
+    ∙ ap (λ (t : ℕ). take 512 (drop (512 * (j % 8)) (take t whole))) (sym size) ∙ ap (λ (l : List ℕ). take 512 (drop (512 * (j % 8)) l)) here.1 in
+    ap chunk_of part
+    ∙ ap (λ (b : Bool). chunk_of (take 512 (drop (512 * (j % 8)) (if b then [] else blocks number)))) (sym (ne_eqb number 0 (omega (arith, here.0))))
+    ∙ ap (chunk_at blocks numbers) (sym same))
 
-pub stopped : (content now : Option Image) (numbers : List ℕ) (k n count : ℕ) (bytes : List ℕ) → now ≡ content → 8 * k < n → count ≡ min (n - 8 * k) 8
-    → 0 < slice_index numbers k → IfSome now (λ image. bytes ≡ block image (slice_index numbers k))
-    → list_all is_some (chunks_in bytes count) ≡ false
-    → IfSome content (λ image. AreSlots (map (chunk_at (block image) numbers) (range_with_len 0 n)) None)
-stopped None now numbers k n count bytes same more count_is there read none = tt
-stopped (Some image) now numbers k n count bytes same more count_is there read none =
-    let f = chunk_at (block image) numbers in
-    let bytes_are = subst (λ (o : Option Image). IfSome o (λ i. bytes ≡ block i (slice_index numbers k))) same read in
-    let both = block_more image numbers k n count bytes more count_is there bytes_are in
-    let end = min (8 * (k + 1)) n in
-    let parts : end + (n - end) ≡ n = omega arith in
-    let front : list_all is_some (first_chunks image numbers (k + 1) n) ≡ false = ap (list_all is_some) both ∙ not_all (first_chunks image numbers k n) (chunks_in bytes count) none in
-    ap (λ (t : ℕ). list_all is_some (map f (range_with_len 0 t))) (sym parts) ∙ ap (list_all is_some) (range_parts f 0 end (n - end))
-    ∙ not_all_yet (first_chunks image numbers (k + 1) n) (map f (range_with_len (0 + end) (n - end))) front
+-- one block more at the end of those that were read
+pub block_appended : (content now : Option Image) (numbers bytes out more : List ℕ) (k : ℕ) → now ≡ content → length bytes ≡ 4096 * k → length out ≡ 4096
+    → IfSome now (λ image. out ≡ block image (slice_index numbers k)) → more ≡ bytes ++ out
+    → IfSome content (λ image. (j : ℕ) → j < k → take 4096 (drop (4096 * j) bytes) ≡ block image (slice_index numbers j))
+    → IfSome content (λ image. (j : ℕ) → j < k + 1 → take 4096 (drop (4096 * j) more) ≡ block image (slice_index numbers j))
+block_appended None now numbers bytes out more k same size long read is before = tt
+block_appended (Some image) now numbers bytes out more k same size long read is before = λ j below.
+    let bytes_are = subst (λ (o : Option Image). IfSome o (λ i. out ≡ block i (slice_index numbers k))) same read in
+    ap (λ (l : List ℕ). take 4096 (drop (4096 * j) l)) is ∙ elim (cases_lt j k) [
+      | inl old ↦
+          ap (take 4096) (drop-append-le (4096 * j) bytes out (omega (arith, size, old)))
+          ∙ take-append-le 4096 (drop (4096 * j) bytes) out (omega (arith, size, old, length-drop (4096 * j) bytes)) ∙ before j old
+      | inr last ↦
+          let at : j ≡ k = omega (arith, last, below) in
+          let place : 4096 * j ≡ length bytes = omega (arith, at, size) in
+          ap (λ (p : ℕ). take 4096 (drop p (bytes ++ out))) place ∙ ap (take 4096) (drop-append_seam bytes out) ∙ take_all 4096 out (omega (arith, long))
+          ∙ bytes_are ∙ ap (λ (n : ℕ). block image (slice_index numbers n)) (sym at)
+    ]
+
+-- all that were to be read
+pub blocks_stand : (content : Option Image) (numbers bytes : List ℕ) (k n : ℕ) → n ≤ k
+    → IfSome content (λ image. (j : ℕ) → j < k → take 4096 (drop (4096 * j) bytes) ≡ block image (slice_index numbers j))
+    → IfSome content (λ image. (j : ℕ) → j < n → take 4096 (drop (4096 * j) bytes) ≡ block image (slice_index numbers j))
+blocks_stand None numbers bytes k n all are = tt
+blocks_stand (Some image) numbers bytes k n all are = λ j below. are j (omega (arith, all, below))

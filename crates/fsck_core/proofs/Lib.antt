@@ -2,6 +2,7 @@ pub mod BitSteps
 pub mod BlocksTold
 pub mod CheckSteps
 pub mod ClaimBridges
+pub mod ClaimParts
 pub mod ClaimSteps
 pub mod ClimbedSteps
 pub mod DirectoryChunks
@@ -10,6 +11,7 @@ pub mod FieldRules
 pub mod Findings
 pub mod FirstFound
 pub mod FirstTwice
+pub mod KeptInodes
 pub mod LookSteps
 pub mod NamedLinks
 pub mod NamesTwice
@@ -18,7 +20,9 @@ pub mod PlacedDirectories
 pub mod RecordLoops
 pub mod RecordSteps
 pub mod RisingNames
+pub mod SlotsInBytes
 pub mod StoreSteps
+pub mod SurveyLoop
 pub mod SurveySteps
 pub mod SurveyTold
 pub mod WithZeros

@@ -13,19 +13,18 @@ use Rattle.meta_store.specs.Store.{StoreTold, IsUnchanged}
 use Rattle.fsck_core.specs.declared.stop.Stop.{Stop}
 use Rattle.fsck_core.specs.declared.stop.Stop.TheVariants.{Found}
 use Rattle.fsck_core.specs.Answers.{IsPart, IsPartOf, IsVerdictOf}
-use Rattle.fsck_core.specs.Survey.{Knows}
-use Rattle.fsck_core.specs.Tables.{AreGroups, AreInodes}
+use Rattle.fsck_core.specs.Tables.{AreGroups}
 use Rattle.fsck_core.proofs.RecordSteps.{no_bad_group}
 
 -- what there is in a volume where no rule is broken
 abbrev pub Says : Geometry → Blocks → Counts → Type 0
 Says g blocks counts = (counts ≡ counts_of g (reading_of g blocks)) × (finding_of g (reading_of g blocks) [] ≡ None)
 
-mapped : (P Q : Image → Type 0) (content : Option Image) → ((image : Image) → P image → Q image) → IfSome content P → IfSome content Q
+pub mapped : (P Q : Image → Type 0) (content : Option Image) → ((image : Image) → P image → Q image) → IfSome content P → IfSome content Q
 mapped P Q None each told = tt
 mapped P Q (Some image) each told = each image told
 
-both : (P Q R : Image → Type 0) (content : Option Image) → ((image : Image) → P image → Q image → R image) → IfSome content P → IfSome content Q → IfSome content R
+pub both : (P Q R : Image → Type 0) (content : Option Image) → ((image : Image) → P image → Q image → R image) → IfSome content P → IfSome content Q → IfSome content R
 both P Q R None each first second = tt
 both P Q R (Some image) each first second = each image first second
 
@@ -41,14 +40,6 @@ groups_known old mid groups same told size =
     carried (λ g image. first_of_kind g (reading_of g (block image)) [] of_groups ≡ None) old mid same
     (mapped (λ image. AreGroups old.geometry (block image) groups) (λ image. first_of_kind old.geometry (reading_of old.geometry (block image)) [] of_groups ≡ None) old.content
     (λ image so. no_bad_group old.geometry (block image) groups so size) told)
-
-pub inodes_known : (old mid : StoreTold) (inodes : List (Option Dinode)) → IsUnchanged old mid → IfSome old.content (λ image. AreInodes old.geometry (block image) inodes)
-    → IfSome old.content (λ image. first_of_kind old.geometry (reading_of old.geometry (block image)) [] of_groups ≡ None)
-    → IfSome mid.content (λ image. Knows mid.geometry (block image) inodes)
-inodes_known old mid inodes same told groups =
-    carried (λ g image. Knows g (block image) inodes) old mid same
-    (both (λ image. AreInodes old.geometry (block image) inodes) (λ image. first_of_kind old.geometry (reading_of old.geometry (block image)) [] of_groups ≡ None)
-    (λ image. Knows old.geometry (block image) inodes) old.content (λ image so none. record { records = so; groups = none }) told groups)
 
 -- the verdict by what was found
 pub clean_verdict : (told : StoreTold) (counts : Counts) (result : Result Counts Stop) → IsPartOf told Says result → result ≡ Ok counts → IsVerdictOf told (Ok (Clean counts))

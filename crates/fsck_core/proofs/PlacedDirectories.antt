@@ -5,12 +5,12 @@ use Rattle.std.proofs.lemmas.Bool.{cases_Bool, cases_eq, eqb-true, eqb-false, eq
 use Rattle.std.proofs.lemmas.List.{length-set, get_or-set_same, get_or-set_other}
 use Rattle.std.specs.List.{list_any, range_with_len}
 use Rattle.std.specs.Option.{option_flatten}
-use Rattle.volume_model.specs.declared.inode.Dinode.{Dinode}
 use Rattle.volume_model.specs.Sound.{Names, is_directory_in, parent_at, namers_of, ancestor_of, leads_to_root, has_right_parent, has_bad_parent}
 use Rattle.fsck_core.specs.declared.names.Namer.{Namer}
 use Rattle.fsck_core.specs.declared.names.Namer.TheVariants.{Nobody}
 use Rattle.fsck_core.specs.declared.names.NameTables.{NameTables}
 use Rattle.fsck_core.specs.NameTables.{namer_in, HasNames}
+use Rattle.fsck_core.specs.declared.inodes.Brief.{Brief}
 use Rattle.fsck_core.specs.StepsUp.{is_directory_record, is_placed, is_misplaced, stepped, IsClosed, LeadsUp}
 
 or_false : (b : Bool) → b ≡ (b || false)
@@ -18,7 +18,7 @@ or_false true = refl
 or_false false = refl
 
 -- the record at a place, both ways
-pub record_at_place : (inodes : List (Option Dinode)) (i : ℕ) → option_flatten (slice_get inodes i) ≡ slice_index_or inodes i None
+pub record_at_place : (inodes : List (Option Brief)) (i : ℕ) → option_flatten (slice_get inodes i) ≡ slice_index_or inodes i None
 record_at_place [] i = refl
 record_at_place (d ∷ inodes) zero = refl
 record_at_place (d ∷ inodes) (suc i) = record_at_place inodes i
@@ -85,7 +85,7 @@ placed_by_entry i parent far [] leads same = nobody_names (i == 2) (parent == 2)
 placed_by_entry i parent far (j ∷ []) leads same = one_names (i == 2) (parent == 2) (j == parent) (far == 2) leads same
 placed_by_entry i parent far (j ∷ (k ∷ more)) leads same = many_name (i == 2) (parent == 2) (j == parent) leads
 
-pub misplaced_is : (n : ℕ) (m : Names) (inodes : List (Option Dinode)) (t : NameTables) (above far : List ℕ) → HasNames n n m t
+pub misplaced_is : (n : ℕ) (m : Names) (inodes : List (Option Brief)) (t : NameTables) (above far : List ℕ) → HasNames n n m t
     → ((i : ℕ) → i < n → is_directory_in m i ≡ is_directory_record (option_flatten (slice_get inodes i))) → ((i : ℕ) → i < n → parent_at m i < n)
     → above ≡ slice_set t.parents.items 2 2 → LeadsUp above (n - 1) far → (i : ℕ) → i < n → is_misplaced inodes t far i ≡ has_bad_parent n m i
 misplaced_is n m inodes t above far has directories inside set leads i less =

@@ -1,5 +1,5 @@
 -- What a check knows of a store while it reads one record after the other.
-use Rattle.std.proofs.Common.{◌≡◌, ◌<◌, inl, inr, ℕ, Bool, true, if◌then◌else◌, List, [], ◌∷◌, ◌++◌, length, Option, Some, None, IfSome, option_map, refl, sym, ap, subst, ◌∙◌, arith}
+use Rattle.std.proofs.Common.{◌≡◌, ◌<◌, ◌≤◌, ◌+◌, inl, inr, ℕ, Bool, true, if◌then◌else◌, List, [], ◌∷◌, ◌++◌, length, Option, Some, None, IfSome, option_map, refl, sym, ap, subst, ◌∙◌, arith}
 use Rattle.std.specs.Prelude.{slice_get}
 use Rattle.std.proofs.lemmas.Bool.{cases_lt, lt-ltb, le-ltb}
 use Rattle.std.proofs.lemmas.Option.{slice_get_within}
@@ -10,8 +10,11 @@ use Rattle.volume_model.specs.Sound.{reading_of, group_at, inode_at, finding_of,
 use Rattle.lufs_base.specs.declared.geometry.Geometry.{Geometry}
 use Rattle.cyl_groups.specs.declared.group.Group.{Group}
 use Rattle.cyl_groups.specs.Group.{record_of}
-use Rattle.fsck_core.specs.Tables.{AreGroups, AreInodes, AreOfBlock, allowed}
-use Rattle.fsck_core.proofs.RecordSteps.{more_groups, bad_group_found, more_inodes, bad_inode_found}
+use Rattle.fsck_core.specs.declared.inodes.Inodes.{Inodes}
+use Rattle.fsck_core.specs.Inodes.{AreKept}
+use Rattle.fsck_core.specs.Tables.{AreGroups, AreOfBlock, allowed}
+use Rattle.fsck_core.proofs.KeptInodes.{briefs_size}
+use Rattle.fsck_core.proofs.RecordSteps.{more_groups, bad_group_found, bad_inode_found}
 
 -- before the first group
 pub groups_begun : (g : Geometry) (content : Option Image) → IfSome content (λ image. AreGroups g (block image) [])
@@ -41,12 +44,10 @@ group_missing g h (Some image) now groups n found geometry same size below is to
 none_is_some : {X : Type 0} (x : X) → None ≡ Some x → ⊥
 none_is_some x is = cc
 
-none_there : (i : ℕ) (d : Dinode) → slice_get [] i ≡ Some (Some d) → ⊥
-none_there i d here = omega (arith, slice_get_within [] i (Some d) here)
-
-pub inodes_begun : (g : Geometry) (content : Option Image) → IfSome content (λ image. AreInodes g (block image) [])
-inodes_begun g None = tt
-inodes_begun g (Some image) = record { records = refl; reserved = λ i d low here. none_there i d here }
+pub inodes_begun : (g : Geometry) (content : Option Image) (k : Inodes) → ((blocks : Blocks) → AreKept g blocks 0 k.briefs.items k.unsettled.items k.claims)
+    → IfSome content (λ image. AreKept g (block image) 0 k.briefs.items k.unsettled.items k.claims)
+inodes_begun g None k are = tt
+inodes_begun g (Some image) k are = are (block image)
 
 pub nothing_held : (content : Option Image) (number : Option ℕ) (bytes : List ℕ) → number ≡ None → AreOfBlock content number bytes
 nothing_held None number bytes none = tt
@@ -71,29 +72,42 @@ not_allowed i blocks (Some (Some v)) may = elim (cases_lt i 2) [
   | inr high ↦ absurd (none_is_some (Some v) (sym may ∙ ap (λ (b : Bool). if b then None else Some (Some v)) (le-ltb i 2 high)))
 ]
 
-pub inodes_more : (g h : Geometry) (content now : Option Image) (inodes : List (Option Dinode)) (n : ℕ) (found : Option (Option Dinode)) (d : Option Dinode)
-    → h ≡ g → now ≡ content → length inodes ≡ n → allowed n found ≡ Some d
-    → IfSome now (λ image. found ≡ inode_at h (block image) n)
-    → IfSome content (λ image. AreInodes g (block image) inodes) → IfSome content (λ image. AreInodes g (block image) (inodes ++ d ∷ []))
-inodes_more g h None now inodes n found d geometry same size may told before = tt
-inodes_more g h (Some image) now inodes n found d geometry same size may told before =
+not_low : (n : ℕ) → (n < 2 → ⊥) → 2 ≤ n
+not_low n never = elim (cases_lt n 2) [
+  | inl low ↦ absurd (never low)
+  | inr high ↦ high
+]
+
+-- one inode more, which was kept
+pub inodes_more : (g h k : Geometry) (content now : Option Image) (n : ℕ) (found : Option (Option Dinode)) (d : Option Dinode) (before after : Inodes)
+    → h ≡ g → k ≡ g → now ≡ content → n < inodes_of g → allowed n found ≡ Some d → IfSome now (λ image. found ≡ inode_at h (block image) n)
+    → ((blocks : Blocks) → n < inodes_of k → inode_at k blocks n ≡ Some d → ((u : Dinode) → d ≡ Some u → 2 ≤ n)
+    → AreKept k blocks n before.briefs.items before.unsettled.items before.claims → AreKept k blocks (n + 1) after.briefs.items after.unsettled.items after.claims)
+    → IfSome content (λ image. AreKept g (block image) n before.briefs.items before.unsettled.items before.claims)
+    → IfSome content (λ image. AreKept g (block image) (n + 1) after.briefs.items after.unsettled.items after.claims)
+inodes_more g h k None now n found d before after geometry read same below may told kept had = tt
+inodes_more g h k (Some image) now n found d before after geometry read same below may told kept had =
     let p = allowed_is n found d may in
     let here : found ≡ inode_at h (block image) n = rw same at told in
-    let next : inode_at g (block image) (length inodes) ≡ Some d =
-    ap (inode_at g (block image)) size ∙ ap (λ (k : Geometry). inode_at k (block image) n) (sym geometry) ∙ sym here ∙ p.0 in
-    more_inodes g (block image) inodes d before next (λ u low. p.1 u (omega (arith, low, size)))
+    let next : inode_at g (block image) n ≡ Some d = ap (λ (j : Geometry). inode_at j (block image) n) (sym geometry) ∙ sym here ∙ p.0 in
+    let step = subst (λ (j : Geometry). n < inodes_of j → inode_at j (block image) n ≡ Some d → ((u : Dinode) → d ≡ Some u → 2 ≤ n)
+    → AreKept j (block image) n before.briefs.items before.unsettled.items before.claims → AreKept j (block image) (n + 1) after.briefs.items after.unsettled.items after.claims)
+    read (kept (block image)) in
+    step below next (λ u some. not_low n (λ low. p.1 u low some)) had
 
-pub inode_wrong : (g h : Geometry) (content now : Option Image) (inodes : List (Option Dinode)) (n : ℕ) (found : Option (Option Dinode))
-    → h ≡ g → now ≡ content → length inodes ≡ n → n < inodes_of g → allowed n found ≡ None
+pub inode_wrong : (g h : Geometry) (content now : Option Image) (k : Inodes) (n : ℕ) (found : Option (Option Dinode))
+    → h ≡ g → now ≡ content → length k.briefs.items ≡ n → n < inodes_of g → allowed n found ≡ None
     → IfSome content (λ image. first_of_kind g (reading_of g (block image)) [] of_groups ≡ None)
     → IfSome now (λ image. found ≡ inode_at h (block image) n)
-    → IfSome content (λ image. AreInodes g (block image) inodes) → IfSome content (λ image. finding_of g (reading_of g (block image)) [] ≡ Some (of_inodes, n))
-inode_wrong g h None now inodes n found geometry same size below may groups told before = tt
-inode_wrong g h (Some image) now inodes n found geometry same size below may groups told before =
+    → IfSome content (λ image. AreKept g (block image) n k.briefs.items k.unsettled.items k.claims) → IfSome content (λ image. finding_of g (reading_of g (block image)) [] ≡ Some (of_inodes, n))
+inode_wrong g h None now k n found geometry same size below may groups told before = tt
+inode_wrong g h (Some image) now k n found geometry same size below may groups told before =
+    let inodes = before.briefs_are.inodes in
+    let count : length inodes ≡ n = briefs_size g (block image) k.briefs.items before.briefs_are ∙ size in
     let here : found ≡ inode_at h (block image) n = rw same at told in
     let is : inode_at g (block image) (length inodes) ≡ found =
-    ap (inode_at g (block image)) size ∙ ap (λ (k : Geometry). inode_at k (block image) n) (sym geometry) ∙ sym here in
-    bad_inode_found g (block image) inodes before (omega (arith, size, below)) groups
-    (ap (λ (k : ℕ). is_bad_state k (Some (state_of (block image) (inode_at g (block image) (length inodes))))) size
+    ap (inode_at g (block image)) count ∙ ap (λ (j : Geometry). inode_at j (block image) n) (sym geometry) ∙ sym here in
+    bad_inode_found g (block image) inodes before.briefs_are.records (omega (arith, count, below)) groups
+    (ap (λ (j : ℕ). is_bad_state j (Some (state_of (block image) (inode_at g (block image) (length inodes))))) count
     ∙ ap (λ (o : Option (Option Dinode)). is_bad_state n (Some (state_of (block image) o))) is ∙ not_allowed n (block image) found may)
-    ∙ ap (λ (k : ℕ). Some (of_inodes, k)) size
+    ∙ ap (λ (j : ℕ). Some (of_inodes, j)) count

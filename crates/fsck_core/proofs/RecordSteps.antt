@@ -90,16 +90,39 @@ pub inode_in : (g : Geometry) (blocks : Blocks) (inodes : List (Option Dinode)) 
     → slice_get inodes i ≡ Some d → inode_at g blocks i ≡ Some d
 inode_in g blocks inodes i d so here = entry (inode_at g blocks) (λ o. o) inodes i d so.records here
 
--- inode i is in use just where the list has it
-pub used_in : (g : Geometry) (blocks : Blocks) (inodes : List (Option Dinode)) (i : ℕ) (d : Option Dinode) → AreInodes g blocks inodes → i < inodes_of g
-    → slice_get inodes i ≡ Some d → used_at (reading_of g blocks) i ≡ option_map (used_inode blocks) d
-used_in g blocks inodes i d so below here =
-    ap (option_and_then used_of) (state_in_volume g blocks i below ∙ ap (λ (o : Option (Option Dinode)). Some (state_of blocks o)) (inode_in g blocks inodes i d so here))
-    ∙ by_case blocks d
+-- inode i is in use just where its record is one
+pub used_by_record : (g : Geometry) (blocks : Blocks) (i : ℕ) (d : Option Dinode) → i < inodes_of g → inode_at g blocks i ≡ Some d
+    → used_at (reading_of g blocks) i ≡ option_map (used_inode blocks) d
+used_by_record g blocks i d below record_is =
+    ap (option_and_then used_of) (state_in_volume g blocks i below ∙ ap (λ (o : Option (Option Dinode)). Some (state_of blocks o)) record_is) ∙ by_case blocks d
   where
     by_case : (blocks : Blocks) (d : Option Dinode) → used_of (state_of blocks (Some d)) ≡ option_map (used_inode blocks) d
     by_case blocks None = refl
     by_case blocks (Some u) = refl
+
+-- and just where the list has it
+pub used_in : (g : Geometry) (blocks : Blocks) (inodes : List (Option Dinode)) (i : ℕ) (d : Option Dinode) → AreInodes g blocks inodes → i < inodes_of g
+    → slice_get inodes i ≡ Some d → used_at (reading_of g blocks) i ≡ option_map (used_inode blocks) d
+used_in g blocks inodes i d so below here = used_by_record g blocks i d below (inode_in g blocks inodes i d so here)
+
+-- past the end of the list no inode is in use
+pub used_past : (g : Geometry) (blocks : Blocks) (i : ℕ) → inodes_of g ≤ i → used_at (reading_of g blocks) i ≡ None
+used_past g blocks i past = elim (slice_get_cases (reading_of g blocks).inodes i).1 [
+  | inl here ↦ absurd (omega (arith, past, length-inodes g blocks, slice_get_within (reading_of g blocks).inodes i here.0 here.2))
+  | inr end ↦ ap (option_and_then used_of) end.1
+]
+
+-- inode i is in use just where its record is there
+pub used_by_records : (g : Geometry) (blocks : Blocks) (inodes : List (Option Dinode)) (i : ℕ) → AreInodes g blocks inodes → length inodes ≡ inodes_of g
+    → used_at (reading_of g blocks) i ≡ option_map (used_inode blocks) (option_flatten (slice_get inodes i))
+used_by_records g blocks inodes i so size = elim (slice_get_cases inodes i).1 [
+  | inl here ↦
+      used_in g blocks inodes i here.0 so (omega (arith, size, slice_get_within inodes i here.0 here.2)) here.2
+      ∙ ap (λ (o : Option (Option Dinode)). option_map (used_inode blocks) (option_flatten o)) (sym here.2)
+  | inr past ↦
+      used_past g blocks i (omega (arith, size, past.0))
+      ∙ ap (λ (o : Option (Option Dinode)). option_map (used_inode blocks) (option_flatten o)) (sym past.1)
+]
 
 right_state : (blocks : Blocks) (i : ℕ) (d : Option Dinode) → ((u : Dinode) → i < 2 → d ≡ Some u → ⊥) → is_bad_state i (Some (state_of blocks (Some d))) ≡ false
 right_state blocks i None fits = refl

@@ -7,6 +7,7 @@ use Rattle.volume_model.specs.declared.directory.Slot.{Slot}
 use Rattle.volume_model.specs.declared.inode.Dinode.{Dinode}
 use Rattle.volume_model.specs.Format.{Blocks, is_directory}
 use Rattle.volume_model.specs.Sound.{Reading, UsedInode, used_at, used_inode, numbers_of, chunks_at, chunk_at, slots_of, names_in_reading, is_used_in, is_directory_in, slots_at, names_at, begins_right, has_twice, has_bad_slots, has_bad_bytes, has_bad_chunk, names_unused}
+use Rattle.fsck_core.specs.declared.inodes.Brief.{Brief}
 use Rattle.fsck_core.specs.declared.survey.Survey.{Survey}
 use Rattle.fsck_core.specs.Slots.{used_slots, is_used_among, unused_named}
 use Rattle.fsck_core.specs.NameTables.{HasNames}
@@ -118,14 +119,14 @@ chunk_by_slots false true i slots good is = refl
 chunk_by_slots false false i slots good is = absurd (cc)
 
 -- the rule on the chunks of a directory, by its slots
-bad_by_slots : (n i : ℕ) (r : Reading) (inodes : List (Option Dinode)) (slots : List Slot) → AreSlotsOf n r inodes i slots
+bad_by_slots : (n i : ℕ) (r : Reading) (inodes : List (Option Brief)) (slots : List Slot) → AreSlotsOf n r inodes i slots
     → has_bad_chunk r i ≡ not (begins_right i slots && not (has_twice (used_slots slots)))
 bad_by_slots n i r inodes slots are =
     let m = names_in_reading r in
     ap (λ (l : List Slot). has_bad_bytes r i || is_directory_in m i && not (begins_right i l && not (has_twice (used_slots l)))) are.slots_are
     ∙ chunk_by_slots (has_bad_bytes r i) (is_directory_in m i) i slots are.bytes are.directory
 
-unused_by_slots : (n i : ℕ) (r : Reading) (inodes : List (Option Dinode)) (slots : List Slot) → AreSlotsOf n r inodes i slots
+unused_by_slots : (n i : ℕ) (r : Reading) (inodes : List (Option Brief)) (slots : List Slot) → AreSlotsOf n r inodes i slots
     → names_unused (names_in_reading r) i ≡ unused_named inodes slots
 unused_by_slots n i r inodes slots are =
     let m = names_in_reading r in
@@ -133,13 +134,13 @@ unused_by_slots n i r inodes slots are =
     ∙ any_alike (λ s. not (is_used_in m s.ino)) (λ s. not (is_used_among inodes s.ino)) (used_slots slots) (λ s. ap not (are.used s.ino))
 
 -- a directory whose slots aren't right
-pub wrong_slots_seen : (n i : ℕ) (r : Reading) (inodes : List (Option Dinode)) (slots : List Slot) (s t : Survey) → AreSlotsOf n r inodes i slots → HasSeenNames n i r s
+pub wrong_slots_seen : (n i : ℕ) (r : Reading) (inodes : List (Option Brief)) (slots : List Slot) (s t : Survey) → AreSlotsOf n r inodes i slots → HasSeenNames n i r s
     → s.bad_chunk ≡ None → (begins_right i slots && not (has_twice (used_slots slots))) ≡ false → t.bad_chunk ≡ Some i → HasSeenNames n (i + 1) r t
 wrong_slots_seen n i r inodes slots s t are has none wrong is =
     bad_chunk_seen n i r s t has none (bad_by_slots n i r inodes slots are ∙ ap not wrong) is
 
 -- a directory whose slots are right, and were entered
-pub slots_seen : (n i : ℕ) (r : Reading) (inodes : List (Option Dinode)) (slots : List Slot) (s t : Survey) → AreSlotsOf n r inodes i slots → HasSeenNames n i r s
+pub slots_seen : (n i : ℕ) (r : Reading) (inodes : List (Option Brief)) (slots : List Slot) (s t : Survey) → AreSlotsOf n r inodes i slots → HasSeenNames n i r s
     → s.bad_chunk ≡ None → (begins_right i slots && not (has_twice (used_slots slots))) ≡ true
     → t.bad_chunk ≡ s.bad_chunk → t.bad_name ≡ option_or s.bad_name (if unused_named inodes slots then Some i else None)
     → (HasNames n i (names_in_reading r) s.names → HasNames n (i + 1) (names_in_reading r) t.names) → HasSeenNames n (i + 1) r t

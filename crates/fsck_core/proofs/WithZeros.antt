@@ -12,7 +12,6 @@ use Rattle.volume_model.specs.declared.directory.Slot.{Slot}
 use Rattle.volume_model.specs.Format.{Image, Blocks, block, chunk_of, is_body, is_file}
 use Rattle.volume_model.specs.Sound.{block_numbered, chunk_at, claims_in, numbers_of, pointers_at, size_in_blocks, has_right_links, has_right_size, has_none_past, has_no_hole, has_right_fields}
 use Rattle.fsck_core.specs.Claimed.{used_with, blocks_claimed, nonzero, with_zeros}
-use Rattle.fsck_core.specs.Slots.{AreSlots}
 use Rattle.fsck_core.proofs.FieldRules.{bodies-claims_in, length-claims_in}
 use Rattle.fsck_core.proofs.Nonzero.{nonzero-append, nonzero-zeros}
 
@@ -84,6 +83,18 @@ fields-with_zeros g i d numbers chunks =
     ∙ ap (λ (t : Bool). has_right_links d && (has_right_size g d && bodies (claims_in i u) && has_none_past u && (is_file d.mode || t) && d.blocks == length (claims_in i more))) hole
     ∙ ap (λ (n : ℕ). has_right_links d && (has_right_size g d && bodies (claims_in i u) && has_none_past u && (is_file d.mode || has_no_hole u) && d.blocks == n)) count_same
 
+-- which inode it is, and what its chunks are, is nothing to its fields
+pub fields_anywhere : (g : Geometry) (i j : ℕ) (d : Dinode) (numbers : List ℕ) (chunks others : List (Option (List Slot)))
+    → has_right_fields g i (used_with d numbers chunks) ≡ has_right_fields g j (used_with d numbers others)
+fields_anywhere g i j d numbers chunks others =
+    let u = used_with d numbers chunks in
+    let v = used_with d numbers others in
+    let bodies = list_all (λ claim. is_body g claim.block) in
+    ap (λ (t : Bool). has_right_links d && (has_right_size g d && t && has_none_past u && (is_file d.mode || has_no_hole u) && d.blocks == length (claims_in i u)))
+    (bodies-claims_in g i d numbers chunks ∙ sym (bodies-claims_in g j d numbers others))
+    ∙ ap (λ (n : ℕ). has_right_links d && (has_right_size g d && bodies (claims_in j v) && has_none_past u && (is_file d.mode || has_no_hole u) && d.blocks == n))
+    (length-claims_in i d numbers chunks ∙ sym (length-claims_in j d numbers others))
+
 -- the same number stands at each index
 pub index-with_zeros : (numbers : List ℕ) (k : ℕ) → slice_index (with_zeros numbers) k ≡ slice_index numbers k
 index-with_zeros numbers k = elim (cases_lt k (length numbers)) [
@@ -100,39 +111,21 @@ index-with_zeros numbers k = elim (cases_lt k (length numbers)) [
     ]
 
 -- the same chunks of a directory
-chunks-with_zeros : (blocks : Blocks) (numbers : List ℕ) (places : List ℕ) → map (chunk_at blocks numbers) places ≡ map (chunk_at blocks (with_zeros numbers)) places
+pub chunks-with_zeros : (blocks : Blocks) (numbers : List ℕ) (places : List ℕ) → map (chunk_at blocks numbers) places ≡ map (chunk_at blocks (with_zeros numbers)) places
 chunks-with_zeros blocks numbers [] = refl
 chunks-with_zeros blocks numbers (k ∷ places) =
     ap (λ (b : ℕ). chunk_of (take 512 (drop (512 * (k % 8)) (block_numbered blocks b))) ∷ map (chunk_at blocks numbers) places) (sym (index-with_zeros numbers (k / 8)))
     ∙ ap (λ (l : List (Option (List Slot))). chunk_at blocks (with_zeros numbers) k ∷ l) (chunks-with_zeros blocks numbers places)
 
--- the numbers that there are: the direct ones where there is no pointer block, else all
-pub whole-with_zeros : (numbers : List ℕ) → length numbers ≡ 1036 → with_zeros numbers ≡ numbers
-whole-with_zeros numbers size =
-    let none : 1036 - length numbers ≡ 0 = omega (arith, size) in
-    ap (λ (n : ℕ). numbers ++ replicate n 0) none ∙ append-nil numbers
+-- where there is no pointer block, the direct numbers are all that there are
+pub direct_numbers : (blocks : Blocks) (d : Dinode) → length d.direct ≡ 12 → slice_index d.indirect 0 ≡ 0 → with_zeros d.direct ≡ numbers_of blocks d
+direct_numbers blocks d size none =
+    let rest : 1036 - length d.direct ≡ 1024 = omega (arith, size) in
+    ap (λ (n : ℕ). d.direct ++ replicate n 0) rest
+    ∙ ap (λ (l : List ℕ). d.direct ++ l) (sym (append-nil (replicate 1024 0)))
+    ∙ ap (λ (p : ℕ). d.direct ++ (pointers_at blocks p ++ [])) (sym none)
 
 pub told_direct : (content : Option Image) (d : Dinode) → length d.direct ≡ 12 → slice_index d.indirect 0 ≡ 0
     → IfSome content (λ image. with_zeros d.direct ≡ numbers_of (block image) d)
 told_direct None d size none = tt
-told_direct (Some image) d size none =
-    let rest : 1036 - length d.direct ≡ 1024 = omega (arith, size) in
-    ap (λ (n : ℕ). d.direct ++ replicate n 0) rest
-    ∙ ap (λ (l : List ℕ). d.direct ++ l) (sym (append-nil (replicate 1024 0)))
-    ∙ ap (λ (p : ℕ). d.direct ++ (pointers_at (block image) p ++ [])) (sym none)
-
-pub told_whole : (content now : Option Image) (d : Dinode) (numbers : List ℕ) → now ≡ content → length numbers ≡ 1036
-    → IfSome content (λ image. numbers ≡ numbers_of (block image) d) → IfSome now (λ image. with_zeros numbers ≡ numbers_of (block image) d)
-told_whole content now d numbers same size told = subst (λ (o : Option Image). IfSome o (λ image. with_zeros numbers ≡ numbers_of (block image) d)) (sym same) (whole content told)
-  where
-    whole : (o : Option Image) → IfSome o (λ image. numbers ≡ numbers_of (block image) d) → IfSome o (λ image. with_zeros numbers ≡ numbers_of (block image) d)
-    whole None read = tt
-    whole (Some image) read = whole-with_zeros numbers size ∙ read
-
--- what was read of a directory, by the numbers with zeros
-pub told_slots : (content : Option Image) (numbers : List ℕ) (n : ℕ) (found : Option (List Slot))
-    → IfSome content (λ image. AreSlots (map (chunk_at (block image) numbers) (range_with_len 0 n)) found)
-    → IfSome content (λ image. AreSlots (map (chunk_at (block image) (with_zeros numbers)) (range_with_len 0 n)) found)
-told_slots None numbers n found are = tt
-told_slots (Some image) numbers n found are =
-    subst (λ (l : List (Option (List Slot))). AreSlots l found) (chunks-with_zeros (block image) numbers (range_with_len 0 n)) are
+told_direct (Some image) d size none = direct_numbers (block image) d size none

@@ -1,6 +1,7 @@
 pub mod Answers
 pub mod Bits
 pub mod Claimed
+pub mod Inodes
 pub mod NameTables
 pub mod Slots
 pub mod StepsUp

@@ -3,19 +3,24 @@ use Rattle.std.specs.Prelude.{◌≡◌, ℕ, ◌*◌, ◌==◌, Bool, false, tr
 use Rattle.std.specs.List.{filter, flat_map, list_all, list_any, range_with_len}
 use Rattle.std.specs.Option.{option_flatten}
 use Rattle.volume_model.specs.declared.directory.Slot.{Slot}
-use Rattle.volume_model.specs.declared.inode.Dinode.{Dinode}
 use Rattle.volume_model.specs.Format.{chunk_of}
+use Rattle.fsck_core.specs.declared.entries.Entry.{Entry}
+use Rattle.fsck_core.specs.declared.inodes.Brief.{Brief}
+
+-- the slot that stands there
+abbrev pub slot_of : Entry → Slot
+slot_of e = record { ino = e.ino; len = e.len; name = e.name.now }
 
 -- those in use
 abbrev pub used_slots : List Slot → List Slot
 used_slots slots = filter (λ s. not (s.ino == 0)) slots
 
 -- an inode of this number is in use
-abbrev pub is_used_among : List (Option Dinode) → ℕ → Bool
+abbrev pub is_used_among : List (Option Brief) → ℕ → Bool
 is_used_among inodes i = is_some (option_flatten (slice_get inodes i))
 
 -- a slot in use names an inode that isn't
-abbrev pub unused_named : List (Option Dinode) → List Slot → Bool
+abbrev pub unused_named : List (Option Brief) → List Slot → Bool
 unused_named inodes slots = list_any (λ s. not (is_used_among inodes s.ino)) (used_slots slots)
 
 -- the first so many chunks of a block

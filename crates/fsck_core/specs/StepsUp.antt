@@ -1,14 +1,14 @@
 -- The steps up in the tree of directories, as a list of the inode above each.
 use Rattle.std.specs.Prelude.{◌≡◌, ◌<◌, ℕ, zero, suc, ◌==◌, Bool, false, not, ◌&&◌, List, length, slice_index, slice_index_or, Option, None}
 use Rattle.std.specs.Option.{option_map_or}
-use Rattle.volume_model.specs.declared.inode.Dinode.{Dinode}
 use Rattle.volume_model.specs.Format.{is_directory}
+use Rattle.fsck_core.specs.declared.inodes.Brief.{Brief}
 use Rattle.fsck_core.specs.declared.names.Namer.{Namer}
 use Rattle.fsck_core.specs.declared.names.Namer.TheVariants.{Nobody, One, Many}
 use Rattle.fsck_core.specs.declared.names.NameTables.{NameTables}
 
 -- the record, if there is one, is a directory's
-abbrev pub is_directory_record : Option Dinode → Bool
+abbrev pub is_directory_record : Option Brief → Bool
 is_directory_record inode = option_map_or (λ d. is_directory d.mode) inode false
 
 -- Directory i has its one place in the tree, where these name it, this one is above it, and the steps up from it end at far:
@@ -20,12 +20,12 @@ is_placed i (One j) above far = not (i == 2) && (j == above && far == 2)
 is_placed i Many above far = false
 
 -- inode i is a directory that doesn't have its one place, where the steps up from each end at these
-abbrev pub is_misplaced : List (Option Dinode) → NameTables → (far : List ℕ) → ℕ → Bool
+abbrev pub is_misplaced : List (Option Brief) → NameTables → (far : List ℕ) → ℕ → Bool
 is_misplaced inodes t far i =
     is_directory_record (slice_index_or inodes i None) && not (is_placed i (slice_index_or t.namers.items i Nobody) (slice_index t.parents.items i) (slice_index far i))
 
 -- the record, if there is one, has another number of links
-abbrev pub has_other_links : Option Dinode → ℕ → Bool
+abbrev pub has_other_links : Option Brief → ℕ → Bool
 has_other_links inode links = option_map_or (λ d. not (d.links == links)) inode false
 
 -- the inode to which so many steps up lead from inode i

@@ -7,25 +7,27 @@ ghost use Rattle.volume_model.specs.declared.finding.Kind.TheVariants.{InodeBit,
 ghost use Rattle.volume_model.specs.Sound.{reading_of, claims_of, inode_bit, has_bad_inode_bit, has_bad_count, has_right_counts, first_of_kind, counts_of};
 ghost use Rattle.cyl_groups.specs.Group.{record_of};
 ghost use Rattle.fsck_core.specs.Bits.{block_bit_among, has_other_bit};
-ghost use Rattle.fsck_core.specs.Tables.{AreGroups, AreInodes};
+ghost use Rattle.fsck_core.specs.Inodes.{AreBriefs};
+ghost use Rattle.fsck_core.specs.Tables.{AreGroups};
 ghost use Rattle.fsck_core.specs.Claimed.{HasClaimed};
 
 use crate::claims::Claims;
 use crate::fields::is_body;
+use crate::inodes::Brief;
 use cyl_groups::{Group, is_set};
 use lufs_base::Geometry;
-use volume_model::{Counts, Dinode};
+use volume_model::Counts;
 
 /// The first inode whose bit doesn't say whether it is in use.
 pub(crate) fn first_bad_inode_bit(
     g: &Geometry,
     groups: &[Group],
-    inodes: &[Option<Dinode>],
+    inodes: &[Option<Brief>],
 ) -> Option<u32>
     requires geometry { IsGeometry g.now }
     requires groups { length groups.now ≡ g.now.groups }
     requires inodes { length inodes.now ≡ inodes_of g.now }
-    ensures { (blocks : Blocks) → AreGroups g.now blocks groups.now → AreInodes g.now blocks inodes.now
+    ensures { (blocks : Blocks) → AreGroups g.now blocks groups.now → AreBriefs g.now blocks inodes.now
         → result ≡ first_of_kind g.now (reading_of g.now blocks) [] InodeBit }
 {
     (0..g.groups * g.ipg).find(|i| has_bad_inode_bit(g, groups, inodes, *i))
@@ -54,10 +56,10 @@ pub(crate) fn first_bad_count(g: &Geometry, groups: &[Group]) -> Option<u32>
 }
 
 /// How many inodes are in use, how many blocks they claim, and how many body blocks are left.
-pub(crate) fn counts(g: &Geometry, inodes: &[Option<Dinode>], claims: &Claims) -> Counts
+pub(crate) fn counts(g: &Geometry, inodes: &[Option<Brief>], claims: &Claims) -> Counts
     requires geometry { IsGeometry g.now }
     requires inodes { length inodes.now ≡ inodes_of g.now }
-    ensures { (blocks : Blocks) → AreInodes g.now blocks inodes.now
+    ensures { (blocks : Blocks) → AreBriefs g.now blocks inodes.now
         → HasClaimed (blocks_of g.now) (map (λ claim. claim.block) (claims_of (reading_of g.now blocks))) claims.now
         → result ≡ counts_of g.now (reading_of g.now blocks) }
 {
@@ -71,12 +73,12 @@ pub(crate) fn counts(g: &Geometry, inodes: &[Option<Dinode>], claims: &Claims) -
 
 // Whether the bit of inode `i` doesn't say whether it is in use. The inodes 0 and 1 never are, though their bits
 // are set.
-fn has_bad_inode_bit(g: &Geometry, groups: &[Group], inodes: &[Option<Dinode>], i: u32) -> bool
+fn has_bad_inode_bit(g: &Geometry, groups: &[Group], inodes: &[Option<Brief>], i: u32) -> bool
     requires geometry { IsGeometry g.now }
     requires groups { length groups.now ≡ g.now.groups }
     requires inodes { length inodes.now ≡ inodes_of g.now }
     requires inside { i < inodes_of g.now }
-    ensures { (blocks : Blocks) → AreGroups g.now blocks groups.now → AreInodes g.now blocks inodes.now
+    ensures { (blocks : Blocks) → AreGroups g.now blocks groups.now → AreBriefs g.now blocks inodes.now
         → result ≡ has_bad_inode_bit g.now (reading_of g.now blocks) [] i }
 {
     i >= 2 && inode_bit(g, groups, i) != inodes[i as usize].is_some()
@@ -143,7 +145,7 @@ fn count_clear(bits: &[u8], n: u32) -> u32
 }
 
 // How many inodes are in use.
-fn count_used(inodes: &[Option<Dinode>]) -> u32
+fn count_used(inodes: &[Option<Brief>]) -> u32
     requires { length inodes.now < 2 ^ 32 }
     ensures { result ≡ count_by is_some inodes.now }
 {

@@ -5,7 +5,9 @@
 mod bits;
 mod claims;
 mod directory;
+mod entries;
 mod fields;
+mod inodes;
 mod names;
 mod numbers;
 mod parents;

@@ -1,11 +1,12 @@
 //! What the names of directories say of each inode: its links, who names it, and what is above it.
-ghost use Rattle.std.specs.Prelude.{◌≡◌, ◌<◌, ◌+◌, ℕ, IfOk};
+ghost use Rattle.std.specs.Prelude.{◌≡◌, ◌<◌, ◌+◌, ℕ, map, IfOk};
 ghost use Rattle.volume_model.specs.Sound.{Names, slots_at};
 ghost use Rattle.fsck_core.specs.NameTables.{with_namer, is_dot, with_parent, with_link, with_name, HasSizes, HasNames};
+ghost use Rattle.fsck_core.specs.Slots.{slot_of};
 
+use crate::entries::Entry;
 use lufs_base::Mem;
 use std::alloc::Global;
-use volume_model::Slot;
 
 /// Which directories name an inode, besides by `.` and `..`.
 #[derive(Clone, Copy, Debug, PartialEq, Eq)]
@@ -54,9 +55,9 @@ impl NameTables {
     }
 
     /// Enters the slots of directory `i`.
-    pub(crate) fn enter(&mut self, i: u32, slots: &[Slot])
+    pub(crate) fn enter(&mut self, i: u32, slots: &[Entry])
         ensures sizes { (n : ℕ) → HasSizes n self.old → HasSizes n self.new }
-        ensures names { (n : ℕ) (m : Names) → i < n → slots_at m i ≡ slots.now → HasNames n i m self.old → HasNames n (i + 1) m self.new }
+        ensures names { (n : ℕ) (m : Names) → i < n → slots_at m i ≡ map slot_of slots.now → HasNames n i m self.old → HasNames n (i + 1) m self.new }
     {
         set_parent(&mut self.parents, i, slots);
         for slot in slots {
@@ -67,8 +68,8 @@ impl NameTables {
 }
 
 // Sets what is above directory `i`, which its second slot names.
-fn set_parent(parents: &mut Vec<u32>, i: u32, slots: &[Slot])
-    ensures { parents.new.items ≡ with_parent i slots.now parents.old.items }
+fn set_parent(parents: &mut Vec<u32>, i: u32, slots: &[Entry])
+    ensures { parents.new.items ≡ with_parent i (map slot_of slots.now) parents.old.items }
 {
     let Some(above) = slots.get(1) else {
         return;
@@ -79,8 +80,8 @@ fn set_parent(parents: &mut Vec<u32>, i: u32, slots: &[Slot])
 }
 
 // Counts the slot for the inode that it names, if it is in use.
-fn add_link(links: &mut Vec<u32>, slot: &Slot)
-    ensures { links.new.items ≡ with_link links.old.items slot.now }
+fn add_link(links: &mut Vec<u32>, slot: &Entry)
+    ensures { links.new.items ≡ with_link links.old.items (slot_of slot.now) }
 {
     if slot.ino == 0 {
         return;
@@ -91,8 +92,8 @@ fn add_link(links: &mut Vec<u32>, slot: &Slot)
 }
 
 // Enters directory `i`, whose slot it is, for the inode that it names.
-fn add_name(namers: &mut Vec<Namer>, i: u32, slot: &Slot)
-    ensures { namers.new.items ≡ with_name i namers.old.items slot.now }
+fn add_name(namers: &mut Vec<Namer>, i: u32, slot: &Entry)
+    ensures { namers.new.items ≡ with_name i namers.old.items (slot_of slot.now) }
 {
     if slot.ino == 0 {
         return;
@@ -106,9 +107,8 @@ fn add_name(namers: &mut Vec<Namer>, i: u32, slot: &Slot)
 }
 
 // Whether the slot has the name of the directory itself or of the one above it.
-fn is_dot(slot: &Slot) -> bool
-    ensures { result ≡ is_dot slot.now }
+fn is_dot(slot: &Entry) -> bool
+    ensures { result ≡ is_dot (slot_of slot.now) }
 {
-    let name = slot.name.as_slice();
-    name == b".".as_slice() || name == b"..".as_slice()
+    slot.name == b".".as_slice() || slot.name == b"..".as_slice()
 }

@@ -3,14 +3,15 @@ ghost use Rattle.std.specs.Prelude.{◌≡◌, ◌<◌, ◌^◌, ℕ, map, lengt
 ghost use Rattle.std.specs.List.{range_with_len};
 ghost use Rattle.std.specs.Option.{option_flatten, option_map};
 ghost use Rattle.volume_model.specs.Sound.{Names, Reading, inodes_in, used_at, names_in_reading, is_directory_in, parent_at, has_bad_parent, has_bad_links};
+ghost use Rattle.fsck_core.specs.Inodes.{brief_of};
 ghost use Rattle.fsck_core.specs.NameTables.{most_links, HasSizes, HasNames};
 ghost use Rattle.fsck_core.specs.StepsUp.{is_directory_record, is_placed, is_misplaced, has_other_links, LeadsUp};
 
+use crate::inodes::Brief;
 use crate::names::{NameTables, Namer};
 use crate::types::is_directory;
 use lufs_base::Mem;
 use std::alloc::Global;
-use volume_model::Dinode;
 
 /// The number of the root.
 const ROOT: u32 = 2;
@@ -18,7 +19,7 @@ const ROOT: u32 = 2;
 /// The first directory that doesn't have its one place in the tree.
 pub(crate) fn first_bad_parent(
     alloc: Global,
-    inodes: &[Option<Dinode>],
+    inodes: &[Option<Brief>],
     tables: &NameTables,
 ) -> Result<Option<u32>, Mem>
     requires fits { length inodes.now < 2 ^ 32 }
@@ -36,11 +37,11 @@ pub(crate) fn first_bad_parent(
 }
 
 /// The first inode in use whose record has another number of links than there are slots that name it.
-pub(crate) fn first_bad_links(inodes: &[Option<Dinode>], tables: &NameTables) -> Option<u32>
+pub(crate) fn first_bad_links(inodes: &[Option<Brief>], tables: &NameTables) -> Option<u32>
     requires fits { length inodes.now < 2 ^ 32 }
     requires sizes { HasSizes (length inodes.now) tables.now }
     ensures { (r : Reading) → inodes_in r ≡ length inodes.now
-        → ((i : ℕ) → i < inodes_in r → option_map (λ u. u.inode) (used_at r i) ≡ option_flatten (slice_get inodes.now i))
+        → ((i : ℕ) → i < inodes_in r → brief_of (option_map (λ u. u.inode) (used_at r i)) ≡ option_flatten (slice_get inodes.now i))
         → HasNames (inodes_in r) (inodes_in r) (names_in_reading r) tables.now
         → result ≡ find (has_bad_links r) (range_with_len 0 (inodes_in r)) }
 {
@@ -48,7 +49,7 @@ pub(crate) fn first_bad_links(inodes: &[Option<Dinode>], tables: &NameTables) ->
 }
 
 // Whether inode `i` is a directory that doesn't have its one place in the tree, where steps up end at `far`.
-fn is_misplaced(inodes: &[Option<Dinode>], tables: &NameTables, far: &[u32], i: u32) -> bool
+fn is_misplaced(inodes: &[Option<Brief>], tables: &NameTables, far: &[u32], i: u32) -> bool
     requires inside { i < length inodes.now }
     requires sizes { HasSizes (length inodes.now) tables.now }
     requires far { length far.now ≡ length inodes.now }
@@ -65,7 +66,7 @@ fn is_misplaced(inodes: &[Option<Dinode>], tables: &NameTables, far: &[u32], i: 
 
 // Whether inode `i` is in use, and its record has another number of links than there are. Where the tables
 // can't say how many, they are more than a record can say.
-fn has_other_links(inodes: &[Option<Dinode>], tables: &NameTables, i: u32) -> bool
+fn has_other_links(inodes: &[Option<Brief>], tables: &NameTables, i: u32) -> bool
     requires inside { i < length inodes.now }
     requires sizes { HasSizes (length inodes.now) tables.now }
     ensures { (links : ℕ) → slice_index tables.now.links.items i ≡ min links most_links

@@ -6,11 +6,13 @@ ghost use Rattle.volume_model.specs.Sound.{reading_of, group_at, inode_at, first
 ghost use Rattle.sector_disk.specs.Disk.{CountsFailure, FailsJustAt};
 ghost use Rattle.cyl_groups.specs.Group.{record_of};
 ghost use Rattle.meta_store.specs.Store.{IsUnchanged};
-ghost use Rattle.fsck_core.specs.Tables.{AreGroups, AreInodes, AreOfBlock, allowed};
+ghost use Rattle.fsck_core.specs.Inodes.{AreKept, HasKept};
+ghost use Rattle.fsck_core.specs.Tables.{AreGroups, AreOfBlock, allowed};
 ghost use Rattle.fsck_core.specs.Answers.{IsPartOf};
 ghost use Rattle.meta_store.specs.declared.error.StoreError.TheVariants.{Disk};
 ghost use Rattle.fsck_core.specs.declared.stop.Stop.TheVariants.{Failed};
 
+use crate::inodes::Inodes;
 use crate::stop::Stop;
 use crate::window::Window;
 use cyl_groups::{Group, read_group};
@@ -102,25 +104,21 @@ fn allowed(i: u32, found: Option<Option<Dinode>>) -> Option<Option<Dinode>>
     }
 }
 
-/// The record of each inode, None of one that isn't in use. The inodes 0 and 1 never are.
-pub(crate) fn read_inodes<S: MetaRead>(
-    alloc: Global,
-    store: &mut S,
-) -> Result<Vec<Option<Dinode>>, Stop>
+/// What there is to keep of each inode. The inodes 0 and 1 are never in use.
+pub(crate) fn read_inodes<S: MetaRead>(alloc: Global, store: &mut S) -> Result<Inodes, Stop>
     requires groups { IfSome (S.store store.old).content (λ image.
         first_of_kind (S.store store.old).geometry (reading_of (S.store store.old).geometry (block image)) [] of_groups ≡ None) }
-    ensures part { IsPartOf (S.store store.old) (λ g blocks inodes. AreInodes g blocks inodes.items) result }
-    ensures size { IfOk result (λ inodes. length inodes.items ≡ inodes_of (S.store store.old).geometry) }
+    ensures part { IsPartOf (S.store store.old) (λ g blocks k. AreKept g blocks (inodes_of g) k.briefs.items k.unsettled.items k.claims) result }
+    ensures room { IfOk result (λ k. HasKept (S.store store.old).geometry (inodes_of (S.store store.old).geometry) k.briefs.items k.unsettled.items k.claims) }
     ensures unchanged { IsUnchanged (S.store store.old) (S.store store.new) }
     ensures failure { FailsJustAt (IsErrOf result (Failed Disk)) (S.store store.old).disk (S.store store.new).disk }
 {
     let g = *store.geometry();
-    let count = g.groups * g.ipg;
-    let mut inodes = Vec::with_capacity(alloc, count as usize)?;
+    let mut inodes = Inodes::new(alloc, &g)?;
     let mut window = Window::new();
-    for i in 0..count {
+    for i in 0..g.groups * g.ipg {
         match allowed(i, inode_record(store, &mut window, i)?) {
-            Some(inode) => inodes.push(inode)?,
+            Some(inode) => inodes.push(&g, i, &inode)?,
             None => return Err(Stop::Found(Kind::Inode, i)),
         }
     }

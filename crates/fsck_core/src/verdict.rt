@@ -1,9 +1,11 @@
 //! The check as a whole: its rules in their order.
 //!
-//! It takes four passes. The first reads the record of each group, and the second the record of each inode. The
-//! third goes over the inodes in use: it looks at the fields of each, claims its blocks, and enters the names of a
-//! directory. Each of these ends the check at the first record or inode that breaks its rule. The fourth reads
-//! nothing more: it goes through the rules that are left, in their order, over what the others kept.
+//! It takes four passes. The first reads the record of each group, and the second the record of each inode. Of an inode
+//! whose record settles it, a file or a text without a pointer block and with right fields, the second pass claims the
+//! blocks at once and keeps only the type and the links. The third goes over the other inodes in use: it looks at the
+//! fields of each, claims its blocks, and enters the names of a directory. Each of these ends the check at the first
+//! record or inode that breaks its rule. The fourth reads nothing more: it goes through the rules that are left, in
+//! their order, over what the others kept.
 ghost use Rattle.std.specs.Prelude.{◌≡◌, [], length, None, IsErrOf};
 ghost use Rattle.lufs_base.specs.declared.geometry.Geometry.{Geometry as IsOfGeometry};
 ghost use Rattle.lufs_base.specs.Layout.{IsGeometry};
@@ -17,9 +19,11 @@ ghost use Rattle.fsck_core.specs.declared.stop.Stop.TheVariants.{Failed};
 ghost use Rattle.fsck_core.specs.Answers.{IsPart, IsPartOf, IsVerdictOf};
 ghost use Rattle.fsck_core.specs.Survey.{IsSurvey, HasRoom};
 ghost use Rattle.fsck_core.specs.StepsUp.{is_directory_record};
-ghost use Rattle.fsck_core.specs.Tables.{AreGroups, AreInodes};
+ghost use Rattle.fsck_core.specs.Inodes.{AreBriefs};
+ghost use Rattle.fsck_core.specs.Tables.{AreGroups};
 
 use crate::bits::{counts, first_bad_block_bit, first_bad_count, first_bad_inode_bit};
+use crate::inodes::{Brief, Inodes};
 use crate::parents::{first_bad_links, first_bad_parent};
 use crate::records::{read_groups, read_inodes};
 use crate::stop::{Stop, unless_found};
@@ -29,10 +33,10 @@ use cyl_groups::Group;
 use lufs_base::Geometry;
 use meta_store::{MetaRead, StoreError};
 use std::alloc::Global;
-use volume_model::{Counts, Dinode, Kind, Verdict};
+use volume_model::{Counts, Kind, Verdict};
 
 // Whether the record, if there is one, is a directory's.
-fn is_directory_record(inode: &Option<Dinode>) -> bool
+fn is_directory_record(inode: &Option<Brief>) -> bool
     ensures { result ≡ is_directory_record inode.now }
 {
     match inode {
@@ -42,8 +46,8 @@ fn is_directory_record(inode: &Option<Dinode>) -> bool
 }
 
 // The root's number, where the root is no directory in use.
-fn first_bad_root(inodes: &[Option<Dinode>]) -> Option<u32>
-    ensures { (g : IsOfGeometry) (blocks : Blocks) → AreInodes g blocks inodes.now → length inodes.now ≡ inodes_of g
+fn first_bad_root(inodes: &[Option<Brief>]) -> Option<u32>
+    ensures { (g : IsOfGeometry) (blocks : Blocks) → AreBriefs g blocks inodes.now → length inodes.now ≡ inodes_of g
         → result ≡ first_of_kind g (reading_of g blocks) [] Root }
 {
     match inodes.get(2) {
@@ -57,14 +61,14 @@ fn judge(
     alloc: Global,
     g: &Geometry,
     groups: &[Group],
-    inodes: &[Option<Dinode>],
+    inodes: &[Option<Brief>],
     survey: &Survey,
 ) -> Result<Counts, Stop>
     requires geometry { IsGeometry g.now }
     requires groups { length groups.now ≡ g.now.groups }
     requires inodes { length inodes.now ≡ inodes_of g.now }
-    requires room { HasRoom g.now (inodes_of g.now) survey.now }
-    ensures part { (blocks : Blocks) → AreGroups g.now blocks groups.now → AreInodes g.now blocks inodes.now
+    requires room { HasRoom g.now survey.now }
+    ensures part { (blocks : Blocks) → AreGroups g.now blocks groups.now → AreBriefs g.now blocks inodes.now
         → IsSurvey g.now (reading_of g.now blocks) (inodes_of g.now) survey.now
         → IsPart g.now blocks (λ counts. (counts ≡ counts_of g.now (reading_of g.now blocks)) × (finding_of g.now (reading_of g.now blocks) [] ≡ None)) result }
     ensures no_fault { ¬ IsErrOf result (Failed Disk) }
@@ -95,9 +99,13 @@ fn look<S: MetaRead>(alloc: Global, store: &mut S) -> Result<Counts, Stop>
 {
     let g = *store.geometry();
     let groups = read_groups(alloc, store)?;
-    let inodes = read_inodes(alloc, store)?;
-    let survey = survey_inodes(alloc, store, &inodes)?;
-    judge(alloc, &g, &groups, &inodes, &survey)
+    let Inodes {
+        briefs,
+        unsettled,
+        claims,
+    } = read_inodes(alloc, store)?;
+    let survey = survey_inodes(alloc, store, &briefs, &unsettled, claims)?;
+    judge(alloc, &g, &groups, &briefs, &survey)
 }
 
 /// Checks a volume (`docs/FORMAT.md`, "What sound means"): whether it is sound while nothing is held, with what

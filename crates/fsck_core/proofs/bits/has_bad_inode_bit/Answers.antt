@@ -9,4 +9,4 @@ returns-then-i-ge2 c = λ blocks groups inodes.
     let records = c.args.inodes.now in
     let d = slice_index_or records i None in
     let here : slice_get records i ≡ Some d = slice_get-get_or records i None (omega (arith, c.requires.inodes, c.requires.inside)) in
-    bad_inode_bit c.args.g.now blocks records i d c.inode_bit.result c.is_some.result inodes c.requires.inside here c.if-i-ge2.true (c.inode_bit.ensures blocks groups) c.is_some.ensures
+    bad_inode_bit c.args.g.now blocks records i d c.inode_bit.result c.is_some.result inodes c.requires.inodes here c.if-i-ge2.true (c.inode_bit.ensures blocks groups) c.is_some.ensures

@@ -1,14 +1,14 @@
-use Rattle.std.proofs.Common.{◌≡◌, ℕ, ◌*◌, ◌<◌, ◌++◌, true, List, All, length, refl, sym, ap, subst, ◌∙◌, arith}
+use Rattle.std.proofs.Common.{◌≡◌, ℕ, ◌*◌, ◌<◌, ◌≤◌, ◌++◌, true, List, All, length, refl, sym, ap, subst, ◌∙◌, arith}
 use Rattle.std.proofs.lemmas.List.Elements.{All-weaker}
-use Rattle.std.proofs.lemmas.Option.{slice_get_within}
 use Rattle.lufs_base.specs.Layout.{blocks_of}
 use Rattle.lufs_base.specs.declared.geometry.Geometry.{Geometry}
 use Rattle.volume_model.specs.declared.inode.Dinode.{Dinode}
 use Rattle.volume_model.specs.Format.{inodes_of, is_body}
 use Rattle.volume_model.specs.Sound.{has_right_fields}
+use Rattle.fsck_core.specs.declared.claims.Claims.{Claims}
 use Rattle.fsck_core.specs.Claimed.{used_with, blocks_claimed, with_zeros, HasClaimed}
 use Rattle.fsck_core.proofs.ClaimBridges.{within_of_bodies}
-use Rattle.fsck_core.proofs.SurveyTold.{told_fields_wrong, told_names, told_seen, few_inodes, room_more}
+use Rattle.fsck_core.proofs.SurveyTold.{told_fields_wrong, told_names, told_seen}
 use Rattle.fsck_core.proofs.WithZeros.{claimed-with_zeros, fields-with_zeros}
 use Rattle.fsck_core.proofs.survey.look_at_numbers.Goals as goal
 
@@ -17,8 +17,7 @@ returns-then-not-has_right_fields-clause-part g c =
     let told = g.S.MetaRead.store c.args.store.now in
     let d = c.args.d.now in
     let numbers = c.args.numbers.now in
-    told_fields_wrong told.geometry told.content c.args.inodes.now c.args.i d (with_zeros numbers) c.args.survey.now c.requires.known
-    (record { size = c.requires.size; here = c.requires.here }) c.requires.read
+    told_fields_wrong told.geometry told.content c.args.inodes.now c.args.i d (with_zeros numbers) c.args.survey.now c.requires.here c.requires.read
     (λ chunks. fields-with_zeros told.geometry c.args.i d numbers chunks
     ∙ ap (λ (k : Geometry). has_right_fields k c.args.i (used_with d numbers chunks)) (sym c.geometry.ensures.value)
     ∙ sym (c.has_right_fields.ensures.value c.args.i chunks) ∙ c.if-not-has_right_fields.true)
@@ -40,14 +39,6 @@ claim_all-requires-clause-room g c =
     (within told.geometry c.geometry.result.now d c.args.numbers.now c.below_size.result.now c.geometry.ensures.value below
     (c.has_right_fields.ensures.bodies c.if-not-has_right_fields.false))
 
-pub claim_all-requires-clause-counted : goal.claim_all-requires-clause-counted
-claim_all-requires-clause-counted g c =
-    let told = g.S.MetaRead.store c.args.store.now in
-    let inside = slice_get_within c.args.inodes.now c.args.i _ c.requires.here in
-    let few = few_inodes told.geometry c.geometry.ensures.in_range in
-    let under : c.args.i < 65536 = omega (arith, inside, few, c.requires.size) in
-    omega (arith, under, c.below_size.ensures.most, c.requires.numbers, c.requires.room.count)
-
 pub returns-clause-part : goal.returns-clause-part
 returns-clause-part g c =
     let told = g.S.MetaRead.store c.args.store.now in
@@ -57,8 +48,7 @@ returns-clause-part g c =
     let claims = c.claim_all.new.self in
     let below : blocks_claimed d c.below_size.result.now ≡ blocks_claimed d numbers =
     ap (λ (l : List ℕ). blocks_claimed d l) c.below_size.ensures.value ∙ c.has_right_fields.ensures.below c.if-not-has_right_fields.false in
-    told_seen told.geometry told.content c.args.inodes.now i d (with_zeros numbers) c.args.survey.now c.look_at_names.new.survey claims c.requires.known
-    (record { size = c.requires.size; here = c.requires.here }) c.requires.read
+    told_seen told.geometry told.content c.args.inodes.now i d (with_zeros numbers) c.args.survey.now c.look_at_names.new.survey claims c.requires.here c.requires.read
     (λ chunks. fields-with_zeros told.geometry i d numbers chunks
     ∙ ap (λ (k : Geometry). has_right_fields k i (used_with d numbers chunks)) (sym c.geometry.ensures.value)
     ∙ sym (c.has_right_fields.ensures.value i chunks) ∙ c.if-not-has_right_fields.false)
@@ -68,10 +58,3 @@ returns-clause-part g c =
     (c.has_right_fields.ensures.bodies c.if-not-has_right_fields.false)) has))
     c.in_ok-look_at_names.ensures.claims
     (told_names told.geometry told.geometry told.content told.content i c.args.survey.now c.look_at_names.new.survey claims refl refl c.in_ok-look_at_names.ensures.names)
-
-pub returns-clause-room : goal.returns-clause-room
-returns-clause-room g c =
-    let told = g.S.MetaRead.store c.args.store.now in
-    room_more told.geometry c.args.i c.below_size.result.now c.args.survey.now c.look_at_names.new.survey c.claim_all.new.self c.requires.room
-    c.in_ok-look_at_names.ensures.claims c.claim_all.ensures.room c.claim_all.ensures.count (omega (arith, c.below_size.ensures.most, c.requires.numbers))
-    (c.in_ok-look_at_names.ensures.sizes (inodes_of told.geometry) c.requires.room.names)
