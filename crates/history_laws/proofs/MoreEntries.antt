@@ -1,34 +1,22 @@
 -- Entries that are the same but for their replies, and others after them.
-use Rattle.std.proofs.Common.{◌≡◌, ◌≤◌, ◌<◌, ℕ, zero, suc, List, [], ◌∷◌, length, take, slice_get, Option, Some, None, refl, ap, ◌∙◌, arith}
+use Rattle.std.proofs.Common.{◌≡◌, ◌≤◌, ◌<◌, ℕ, zero, suc, List, [], ◌∷◌, length, take, slice_get, arith}
 use Rattle.std.specs.Prelude.{IfSome, IsSomeAnd}
 use Rattle.lufs_base.specs.declared.geometry.Geometry.{Geometry}
-use Rattle.tree_types.specs.declared.call.Call.{Call}
 use Rattle.tree_types.specs.declared.history.Entry.{Entry}
 use Rattle.volume_model.specs.Sound.{Tree}
-use Rattle.history_model.specs.Histories.{replayed_on, after_call}
+use Rattle.history_model.specs.Histories.{replayed_on}
 use Rattle.history_laws.specs.Additions.{IsUntold, IsSameEntry, AreMoreEntries}
-
-abbrev told_as : Entry → Option ℕ → Entry
-told_as e told = record e { told = told }
-
--- what an entry does to a tree doesn't tell when its reply was given
-after_told : (g : Geometry) (moment : ℕ) (tree : Tree) (e : Entry) (told : Option ℕ) (c : Option Call) → after_call g moment tree (told_as e told) c ≡ after_call g moment tree e c
-after_told g moment tree e told None = refl
-after_told g moment tree e told (Some c) = refl
+use Rattle.history_laws.proofs.LikeEntries.{AreLike, replayed_like}
 
 module _ (n : ℕ) where
-  pub after_same : (g : Geometry) (moment : ℕ) (tree : Tree) (e f : Entry) → IsSameEntry n e f → after_call g moment tree f f.call ≡ after_call g moment tree e e.call
-  after_same g moment tree e f same =
-      ap (λ (x : Entry). after_call g moment tree x x.call) same.same ∙ after_told g moment tree e f.told e.call
+  more_like : (old new : List Entry) → AreMoreEntries n old new → AreLike old new
+  more_like [] new more = tt
+  more_like (e ∷ old) [] more = absurd more
+  more_like (e ∷ old) (f ∷ new) more = (more.0.same, more_like old new more.1)
 
   pub replayed_same : (g : Geometry) (moment : ℕ) (tree : Tree) (old new : List Entry) (b : ℕ) → AreMoreEntries n old new → b ≤ length old
       → replayed_on g moment tree (take b new) ≡ replayed_on g moment tree (take b old)
-  replayed_same g moment tree old new zero more within = refl
-  replayed_same g moment tree [] new (suc b) more within = absurd (omega (arith, within))
-  replayed_same g moment tree (e ∷ old) [] (suc b) more within = absurd more
-  replayed_same g moment tree (e ∷ old) (f ∷ new) (suc b) (here, more) within =
-      ap (λ (t : Tree). replayed_on g moment t (take b new)) (after_same g moment tree e f here)
-      ∙ replayed_same g moment (after_call g moment tree e e.call) old new b more (omega (arith, within))
+  replayed_same g moment tree old new b more within = replayed_like g moment tree old new b (more_like old new more) within
 
   -- what holds of an old entry at a place, and what follows for the new one there
   pub new_holds : (P Q : Entry → Type 0) (old new : List Entry) (i : ℕ) → AreMoreEntries n old new → ((e f : Entry) → IsSameEntry n e f → P e → Q f)

@@ -1,5 +1,5 @@
 -- A file of the tree that a reading shapes has its blocks where the reading names them.
-use Rattle.std.proofs.Common.{◌≡◌, ◌<◌, ◌≤◌, ◌⊎◌, inl, inr, ℕ, ◌/◌, ◌==◌, nat_lt, Bool, true, false, not, ◌&&◌, if◌then◌else◌, List, [], map, take, slice_get, slice_index, Option, Some, None, unwrap_or, refl, sym, ap, ◌∙◌, arith}
+use Rattle.std.proofs.Common.{◌≡◌, ◌<◌, ◌≤◌, ◌⊎◌, inl, inr, ℕ, ◌/◌, ◌%◌, ◌==◌, nat_lt, Bool, true, false, not, ◌&&◌, if◌then◌else◌, List, [], map, take, slice_get, slice_index, Option, Some, None, unwrap_or, refl, sym, ap, ◌∙◌, subst, arith}
 use Rattle.std.specs.Prelude.{option_map, option_and_then, IsSomeAnd}
 use Rattle.std.specs.Option.{option_flatten}
 use Rattle.std.specs.List.{range_with_len}
@@ -109,10 +109,38 @@ named_number u index b is = from (is_file u.inode.mode) (nat_lt index (size_in_b
     from true false z is = absurd cc
     from false d z is = absurd cc
 
--- the inode of a name, and the number in its record
-pub named_in_record : (r : Reading) (ino index b : ℕ) → named_block r ino index ≡ Some b → (u : UsedInode) × (used_at r ino ≡ Some u) × (slice_index u.numbers index ≡ b)
+-- a block that a reading names isn't number 0
+named_some : (u : UsedInode) (index b : ℕ) → block_at_index u index ≡ Some b → (slice_index u.numbers index == 0) ≡ false
+named_some u index b is = from (is_file u.inode.mode) (nat_lt index (size_in_blocks u.inode.size)) (slice_index u.numbers index == 0) is
+  where
+    from : (c d z : Bool) → (if c && (d && not z) then Some (slice_index u.numbers index) else None) ≡ Some b → z ≡ false
+    from true true false is = refl
+    from true true true is = absurd cc
+    from true false z is = absurd cc
+    from false d z is = absurd cc
+
+-- the inode of a name, and the number in its record, which isn't 0
+pub named_in_record : (r : Reading) (ino index b : ℕ) → named_block r ino index ≡ Some b
+    → (u : UsedInode) × (used_at r ino ≡ Some u) × (slice_index u.numbers index ≡ b) × ((slice_index u.numbers index == 0) ≡ false)
 named_in_record r ino index b is = from (used_at r ino) is
   where
-    from : (o : Option UsedInode) → option_and_then (λ u. block_at_index u index) o ≡ Some b → (u : UsedInode) × (o ≡ Some u) × (slice_index u.numbers index ≡ b)
+    from : (o : Option UsedInode) → option_and_then (λ u. block_at_index u index) o ≡ Some b
+        → (u : UsedInode) × (o ≡ Some u) × (slice_index u.numbers index ≡ b) × ((slice_index u.numbers index == 0) ≡ false)
     from None is = absurd cc
-    from (Some u) is = (u, refl, named_number u index b is)
+    from (Some u) is = (u, refl, named_number u index b is, named_some u index b is)
+
+-- a block of a file of the tree is the one that the reading names, if it names one
+pub block_read : (g : Geometry) (blocks : Blocks) (ino index : ℕ) (file : FileNode) → tree_of g blocks ino ≡ Some (File file)
+    → block_at file index ≡ option_map (bytes_at blocks) (named_block (reading_of g blocks) ino index)
+unfolding tree_of
+block_read g blocks ino index file is = sym (ap (λ (o : Option Node). block_of o index) is) ∙ block_of_read blocks index (used_at (reading_of g blocks) ino)
+
+pub block_by_name : (g : Geometry) (blocks : Blocks) (ino index b : ℕ) (file : FileNode) → tree_of g blocks ino ≡ Some (File file) → named_block (reading_of g blocks) ino index ≡ Some b
+    → block_at file index ≡ Some (take 4096 (blocks b))
+block_by_name g blocks ino index b file is names = block_read g blocks ino index file is ∙ ap (option_map (bytes_at blocks)) names
+
+-- a byte of a file of the tree is in the block that the reading names for it
+pub byte_by_tree : (g : Geometry) (blocks : Blocks) (ino p value b : ℕ) → HasByteOf (tree_of g blocks) ino p value → Names (reading_of g blocks) ino p b
+    → slice_index (take 4096 (blocks b)) (p % 4096) ≡ value
+byte_by_tree g blocks ino p value b has names =
+    subst (λ (o : Option (List ℕ)). IsSomeAnd o (λ bytes. slice_index bytes (p % 4096) ≡ value)) (block_by_name g blocks ino (p / 4096) b has.file has.is names) has.has.claimed

@@ -1,7 +1,6 @@
 -- What a crash leaves now recovers to the published boundary, or to the sealed one.
-use Rattle.std.proofs.Common.{◌≡◌, ◌<◌, ◌≤◌, ◌⊎◌, inl, inr, ℕ, zero, suc, ◌+◌, ◌*◌, ◌/◌, ◌%◌, min, true, List, [], length, take, drop, slice_index, Option, Some, None, refl, sym, ap, ◌∙◌, subst, arith}
+use Rattle.std.proofs.Common.{◌≡◌, ◌<◌, ◌≤◌, ◌⊎◌, inl, inr, ℕ, ◌+◌, ◌*◌, ◌/◌, ◌%◌, true, List, [], length, slice_index, Option, Some, None, refl, sym, ap, ◌∙◌, subst, arith}
 use Rattle.std.specs.Prelude.{IfSome, IsSomeAnd}
-use Rattle.std.proofs.lemmas.List.{ext_get_or, length-take, length-drop, get_or-take}
 use Rattle.lufs_base.specs.Layout.{IsGeometry}
 use Rattle.lufs_base.specs.declared.geometry.Geometry.{Geometry}
 use Rattle.tree_types.specs.declared.history.Entry.{Entry}
@@ -9,15 +8,15 @@ use Rattle.volume_model.specs.declared.log.Tx.{Tx}
 use Rattle.volume_model.specs.Format.{Image, block}
 use Rattle.volume_model.specs.Log.{recovered_by, recovered, replayed}
 use Rattle.volume_model.specs.Crash.{Record, Outcome, present_of}
-use Rattle.volume_model.specs.Sound.{Reading, reading_of, UsedInode, used_at, metadata_length, AgreeButInFileBytes, Tree, shape_of, HasShape, MountsAs}
-use Rattle.volume_model.proofs.ReplayLaws.{length-replayed, byte_replayed}
+use Rattle.volume_model.specs.Sound.{Reading, reading_of, UsedInode, used_at, AgreeButInFileBytes, Tree, shape_of, HasShape, MountsAs}
+use Rattle.volume_model.proofs.ReplayLaws.{byte_replayed}
 use Rattle.volume_laws.proofs.SameReading.{reading_same}
 use Rattle.volume_laws.proofs.SameTree.{same_shape_of, sound_too}
 use Rattle.history_model.specs.Histories.{History, entry_at, replay_of}
 use Rattle.history_model.specs.CrashSafety.{byte_named, HasKept, RecoversTo, IsCrashSafeAt}
 use Rattle.journal_model.specs.Journals.{SealedTx, Journal}
 use Rattle.journal_model.specs.Versions.{Version, Published, Sealed, txs_after, txs_of, content_of}
-use Rattle.journal_model.specs.BlockRoles.{Metadata, FileBytes, Roles, is_claimed}
+use Rattle.journal_model.specs.BlockRoles.{FileBytes, Roles, is_claimed}
 use Rattle.journal_model.specs.Safety.{IsSafe}
 use Rattle.journal_model.specs.Recovery.{Recovers}
 use Rattle.journal_laws.proofs.Outcomes.{byte_in_block, size_of_present, blocks_fit}
@@ -27,25 +26,8 @@ use Rattle.history_laws.specs.Named.{Names, byte_in, HasByteOf}
 use Rattle.history_laws.specs.KeptBytes.{AreBytesKept, IsCrashKept, AreToldPublished, BeganBefore}
 use Rattle.history_laws.specs.Published.{AreRolesOf, reading_in, IsVersionOf, IsPublishedAs, IsSealedBefore}
 use Rattle.history_laws.proofs.NamedBlocks.{named_by_shape, named_in_record}
+use Rattle.history_laws.proofs.SameMetadata.{agree_by_metadata}
 use Rattle.history_laws.proofs.SettledBytes.{left_kept, sealed_kept}
-
-size_of_block : (image : Image) (b : ℕ) → length (block image b) ≡ min 4096 (length (drop (512 * (8 * b)) image))
-size_of_block image b = length-take 4096 (drop (512 * (8 * b)) image)
-
--- the fronts of two blocks that have the same bytes there
-same_front : (one other : Image) (b m : ℕ) → length other ≡ length one
-    → ((i : ℕ) → i < m → i < 4096 → 4096 * b + i < length one → slice_index other (4096 * b + i) ≡ slice_index one (4096 * b + i))
-    → take m (block other b) ≡ take m (block one b)
-same_front one other b m size same =
-    let front : length (take m (block one b)) ≡ min m (length (block one b)) = length-take m (block one b) in
-    let other_front : length (take m (block other b)) ≡ min m (length (block other b)) = length-take m (block other b) in
-    let drops : length (drop (512 * (8 * b)) one) ≡ length (drop (512 * (8 * b)) other) = omega (arith, length-drop (512 * (8 * b)) one, length-drop (512 * (8 * b)) other, size) in
-    let blocks : length (block other b) ≡ length (block one b) = omega (arith, size_of_block one b, size_of_block other b, drops) in
-    ext_get_or 0 (take m (block other b)) (take m (block one b)) (omega (arith, front, other_front, blocks)) (λ i below.
-    let low : i < m = omega (arith, below, other_front) in
-    let inside : i < 4096 = omega (arith, below, other_front, size_of_block other b) in
-    let there : 4096 * b + i < length one = omega (arith, below, other_front, size_of_block other b, length-drop (512 * (8 * b)) other, size) in
-    get_or-take m (block other b) i 0 low ∙ byte_in_block other b i inside ∙ same i low inside there ∙ sym (byte_in_block one b i inside) ∙ sym (get_or-take m (block one b) i 0 low))
 
 -- the entries that were told are among the first k
 told_within : (n i published k : ℕ) (o : Option Entry) → published ≤ k → IfSome o (λ e. e.sync ≡ true → IfSome e.told (λ told. i ≤ published))
@@ -74,24 +56,8 @@ module _ (g : Geometry) (roles : Roles) (r : Record) (j : Journal) (image : Imag
   ok : IsGeometry g
   ok = numbers_of g image (safe.each image left).geometry
 
-  same_size : length content ≡ length version
-  same_size = length-replayed image txs ∙ left.size ∙ sym (size_of_present r safe.sectors) ∙ sym (length-replayed (present_of r) (txs_of g j v))
-
-  -- a byte that the version has as metadata
-  same_byte : (b n i : ℕ) → roles v b ≡ Metadata n → i < n → 4096 * b + i < length version → slice_index content (4096 * b + i) ≡ slice_index version (4096 * b + i)
-  same_byte b n i role low there =
-      byte_replayed image txs (4096 * b + i) (omega (arith, there, same_size, length-replayed image txs))
-      ∙ rec.metadata.each b n i role low
-      ∙ sym (byte_replayed (present_of r) (txs_of g j v) (4096 * b + i) (omega (arith, there, length-replayed (present_of r) (txs_of g j v))))
-
   agree : AreRolesOf g (roles v) (reading_in g j (present_of r) v) → AgreeButInFileBytes g (block version) (block content)
-  agree are b = by_length (metadata_length g (reading_of g (block version)) b) refl
-    where
-      by_length : (m : ℕ) → metadata_length g (reading_of g (block version)) b ≡ m → take m (block content b) ≡ take m (block version b)
-      by_length zero is = refl
-      by_length (suc m) is =
-          let role = are.metadata b (omega (arith, is)) in
-          same_front version content b (suc m) same_size (λ i low inside there. same_byte b role.0 i role.1 (omega (arith, low, is, role.2)) there)
+  agree = agree_by_metadata g (roles v) (present_of r) image (txs_of g j v) txs (left.size ∙ sym (size_of_present r safe.sectors)) rec.metadata
 
   mounts : (shape : Tree) → IsVersionOf g roles (present_of r) j v shape → MountsAs image shape
   mounts shape is =

@@ -31,14 +31,14 @@ not_given_after : (from to a : ℕ) (x : Option ℕ) → to ≤ a → (if nat_le
 not_given_after from to a x high = grind arith
 
 -- byte a of a list in three parts, of which the one in the middle stands at `from`
-in_first : (front bytes rest : List ℕ) (a : ℕ) → a < length front → slice_index (front ++ (bytes ++ rest)) a ≡ slice_index front a
+pub in_first : (front bytes rest : List ℕ) (a : ℕ) → a < length front → slice_index (front ++ (bytes ++ rest)) a ≡ slice_index front a
 in_first front bytes rest a below = get_or_append_left front (bytes ++ rest) 0 a below
 
 in_middle : (front bytes rest : List ℕ) (from a j : ℕ) → length front ≡ from → from + j ≡ a → j < length bytes → slice_index (front ++ (bytes ++ rest)) a ≡ slice_index bytes j
 in_middle front bytes rest from a j size at below =
     ap (slice_index (front ++ (bytes ++ rest))) (sym at ∙ ap (λ (n : ℕ). n + j) (sym size)) ∙ get_or-append-add front (bytes ++ rest) j 0 ∙ get_or_append_left bytes rest 0 j below
 
-in_rest : (front bytes rest : List ℕ) (from a j : ℕ) → length front ≡ from → from + (length bytes + j) ≡ a → slice_index (front ++ (bytes ++ rest)) a ≡ slice_index rest j
+pub in_rest : (front bytes rest : List ℕ) (from a j : ℕ) → length front ≡ from → from + (length bytes + j) ≡ a → slice_index (front ++ (bytes ++ rest)) a ≡ slice_index rest j
 in_rest front bytes rest from a j size at =
     ap (slice_index (front ++ (bytes ++ rest))) (sym at ∙ ap (λ (n : ℕ). n + (length bytes + j)) (sym size)) ∙ get_or-append-add front (bytes ++ rest) (length bytes + j) 0 ∙ get_or-append-add bytes rest j 0
 

@@ -4,3 +4,9 @@ pub mod KeptBytes
 pub mod RawWrites
 pub mod Published
 pub mod Applied
+pub mod Volumes
+pub mod VolumeSteps
+pub mod Sessions
+pub mod WholeFiles
+pub mod VolumeRoles
+pub mod WorkedSession
