@@ -6,8 +6,10 @@ use Rattle.std.proofs.Math.Path.{fun_ext}
 use Rattle.sector_disk.specs.Disk.{DiskTold, IsZeroDisk}
 use Rattle.sector_disk.specs.MemDisk.{State as DiskState, told_of as disk_told}
 use Rattle.host_io.specs.declared.host.Ask.{Ask}
+use Rattle.host_io.specs.MemSource.{State as SourceState, told_of as source_told}
 use Rattle.host_io.specs.MemSink.{State as SinkState, told_of as sink_told}
 use Rattle.host_io.specs.MemHost.{zeros_of, there_or_zeros}
+use Rattle.host_io.specs.Source.{SourceTold}
 use Rattle.host_io.specs.Outside.{Outside, SinkTold, StartsAs}
 use Rattle.host_io.specs.Places.{Place, Places, nothing, here, lent, here_of, place_map, with_place}
 
@@ -38,29 +40,36 @@ told_with_place told new old name p is =
     fun_ext (λ q. ap (λ (places : Places _). place_map told (places q)) is ∙ chosen_told told (bytes_eq name q) p (old q))
 
 -- the outside that is told of these
-abbrev pub outside_with : (moment faults absent : ℕ) → List Ask → Places DiskTold → Places SinkTold → Outside
-outside_with moment faults absent asks disks sinks = record {
+abbrev pub outside_with : (moment faults absent : ℕ) → List Ask → Places DiskTold → Places SourceTold → Places SinkTold → Outside
+outside_with moment faults absent asks disks sources sinks = record {
   moment = Some moment;
   asks = Some asks;
-  holds = Some (record { disks = disks; sinks = sinks });
+  holds = Some (record { disks = disks; sources = sources; sinks = sinks });
   faults = faults;
   absent = absent;
 }
 
 module _ (moment faults absent : ℕ) (asks listed : List Ask) (same : asks ≡ listed) (name : List ℕ) where
-  pub outside_with-disk : (new old : Places DiskState) (sinks : Places SinkTold) (p : Place DiskState) → new ≡ with_place old name p
-      → outside_with moment faults absent asks (λ q. place_map disk_told (new q)) sinks
-      ≡ outside_with moment faults absent listed (with_place (λ q. place_map disk_told (old q)) name (place_map disk_told p)) sinks
-  outside_with-disk new old sinks p is =
-      ap (λ (a : List Ask). outside_with moment faults absent a (λ q. place_map disk_told (new q)) sinks) same
-      ∙ ap (λ (d : Places DiskTold). outside_with moment faults absent listed d sinks) (told_with_place disk_told new old name p is)
+  pub outside_with-disk : (new old : Places DiskState) (sources : Places SourceTold) (sinks : Places SinkTold) (p : Place DiskState) → new ≡ with_place old name p
+      → outside_with moment faults absent asks (λ q. place_map disk_told (new q)) sources sinks
+      ≡ outside_with moment faults absent listed (with_place (λ q. place_map disk_told (old q)) name (place_map disk_told p)) sources sinks
+  outside_with-disk new old sources sinks p is =
+      ap (λ (a : List Ask). outside_with moment faults absent a (λ q. place_map disk_told (new q)) sources sinks) same
+      ∙ ap (λ (d : Places DiskTold). outside_with moment faults absent listed d sources sinks) (told_with_place disk_told new old name p is)
 
-  pub outside_with-sink : (new old : Places SinkState) (disks : Places DiskTold) (p : Place SinkState) → new ≡ with_place old name p
-      → outside_with moment faults absent asks disks (λ q. place_map sink_told (new q))
-      ≡ outside_with moment faults absent listed disks (with_place (λ q. place_map sink_told (old q)) name (place_map sink_told p))
-  outside_with-sink new old disks p is =
-      ap (λ (a : List Ask). outside_with moment faults absent a disks (λ q. place_map sink_told (new q))) same
-      ∙ ap (λ (k : Places SinkTold). outside_with moment faults absent listed disks k) (told_with_place sink_told new old name p is)
+  pub outside_with-source : (new old : Places SourceState) (disks : Places DiskTold) (sinks : Places SinkTold) (p : Place SourceState) → new ≡ with_place old name p
+      → outside_with moment faults absent asks disks (λ q. place_map source_told (new q)) sinks
+      ≡ outside_with moment faults absent listed disks (with_place (λ q. place_map source_told (old q)) name (place_map source_told p)) sinks
+  outside_with-source new old disks sinks p is =
+      ap (λ (a : List Ask). outside_with moment faults absent a disks (λ q. place_map source_told (new q)) sinks) same
+      ∙ ap (λ (k : Places SourceTold). outside_with moment faults absent listed disks k sinks) (told_with_place source_told new old name p is)
+
+  pub outside_with-sink : (new old : Places SinkState) (disks : Places DiskTold) (sources : Places SourceTold) (p : Place SinkState) → new ≡ with_place old name p
+      → outside_with moment faults absent asks disks sources (λ q. place_map sink_told (new q))
+      ≡ outside_with moment faults absent listed disks sources (with_place (λ q. place_map sink_told (old q)) name (place_map sink_told p))
+  outside_with-sink new old disks sources p is =
+      ap (λ (a : List Ask). outside_with moment faults absent a disks sources (λ q. place_map sink_told (new q))) same
+      ∙ ap (λ (k : Places SinkTold). outside_with moment faults absent listed disks sources k) (told_with_place sink_told new old name p is)
 
 zeros_told : (sectors : ℕ) → IsZeroDisk sectors (disk_told (zeros_of sectors))
 zeros_told sectors = record {

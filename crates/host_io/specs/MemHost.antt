@@ -2,11 +2,12 @@
 use Rattle.std.specs.Prelude.{◌≡◌, ◌⊎◌, ◌∷◌, ℕ, ◌*◌, if◌then◌else◌, List, [], replicate, Option, Some, unwrap_or, Result, Err, bytes_eq}
 use Rattle.std.specs.List.{flat_map}
 use Rattle.sector_disk.specs.MemDisk.{State as DiskState, new_state as new_disk, told_of as disk_told}
+use Rattle.host_io.specs.MemSource.{State as SourceState, told_of as source_told}
 use Rattle.host_io.specs.MemSink.{State as SinkState, told_of as sink_told}
 use Rattle.host_io.specs.declared.host.Ask.{Ask}
 use Rattle.host_io.specs.declared.host.HostError.{HostError}
 use Rattle.host_io.specs.declared.host.HostError.TheVariants.{Failed, Mem}
-use Rattle.host_io.specs.declared.mem_host.PutFail.{PutFail}
+use Rattle.host_io.specs.declared.mem_host.NamedCall.{NamedCall}
 use Rattle.host_io.specs.declared.named.Named.{Named}
 use Rattle.host_io.specs.Places.{place_map}
 use Rattle.host_io.specs.Named.{places_of}
@@ -16,12 +17,14 @@ pub record State : Type 0 where
   pub moment : ℕ
   -- what it holds under each name, or lent
   pub disks : List (Named DiskState)
+  pub sources : List (Named SourceState)
   pub sinks : List (Named SinkState)
   pub asks : List Ask
   -- the takes and makes that are to fail, by their number from 1
   pub fails : List ℕ
-  -- the puts that are to fail, by the name of the sink and their number from 1
-  pub put_fails : List PutFail
+  -- the takes of sources and the puts of sinks that are to fail
+  pub take_fails : List NamedCall
+  pub put_fails : List NamedCall
   -- the takes and makes so far
   pub takes : ℕ
   pub faults : ℕ
@@ -32,29 +35,31 @@ abbrev pub new_state : ℕ → State
 new_state moment = record {
   moment = moment;
   disks = [];
+  sources = [];
   sinks = [];
   asks = [];
   fails = [];
+  take_fails = [];
   put_fails = [];
   takes = 0;
   faults = 0;
   absent = 0;
 }
 
--- the number of a put that is to fail, if it is of the sink of this name
-abbrev pub put_of_sink : List ℕ → PutFail → List ℕ
-put_of_sink name f = if bytes_eq f.sink name then f.k ∷ [] else []
+-- the number of a call that is to fail, if it is one of what has this name
+abbrev pub call_of : List ℕ → NamedCall → List ℕ
+call_of name call = if bytes_eq call.name name then call.k ∷ [] else []
 
--- the puts that are to fail of the sink of this name, by their number
-abbrev pub puts_to_fail : List PutFail → List ℕ → List ℕ
-puts_to_fail put_fails name = flat_map (put_of_sink name) put_fails
+-- the calls of what has this name that are to fail, by their number
+abbrev pub calls_to_fail : List NamedCall → List ℕ → List ℕ
+calls_to_fail calls name = flat_map (call_of name) calls
 
 -- what it tells of the outside
 abbrev pub outside_of : State → Outside
 outside_of s = record {
   moment = Some s.moment;
   asks = Some s.asks;
-  holds = Some (record { disks = λ q. place_map disk_told (places_of s.disks q); sinks = λ q. place_map sink_told (places_of s.sinks q) });
+  holds = Some (record { disks = λ q. place_map disk_told (places_of s.disks q); sources = λ q. place_map source_told (places_of s.sources q); sinks = λ q. place_map sink_told (places_of s.sinks q) });
   faults = s.faults;
   absent = s.absent;
 }

@@ -5,10 +5,11 @@ use Rattle.sector_disk.specs.Disk.{DiskTold, IsZeroDisk}
 use Rattle.host_io.specs.declared.host.HostError.{HostError}
 use Rattle.host_io.specs.declared.host.HostError.TheVariants.{Missing, Failed, Mem}
 use Rattle.host_io.specs.declared.host.AskKind.{AskKind}
-use Rattle.host_io.specs.declared.host.AskKind.TheVariants.{TakeDisk, MakeDisk, TakeSink}
+use Rattle.host_io.specs.declared.host.AskKind.TheVariants.{TakeDisk, MakeDisk, TakeSource, TakeSink}
 use Rattle.host_io.specs.declared.host.AskAnswer.{AskAnswer}
 use Rattle.host_io.specs.declared.host.AskAnswer.TheVariants as answers
 use Rattle.host_io.specs.declared.host.Ask.{Ask}
+use Rattle.host_io.specs.Source.{SourceTold}
 use Rattle.host_io.specs.Places.{here, lent, here_of, Places, with_place}
 
 -- What a sink tells of itself at one moment.
@@ -26,6 +27,7 @@ pub record Puts {T E : Type 0} (bytes : List ℕ) (result : Result T E) (old new
 -- what stands under each name
 pub record Holdings : Type 0 where
   pub disks : Places DiskTold
+  pub sources : Places SourceTold
   pub sinks : Places SinkTold
 
 -- What a host tells of the outside at one moment.
@@ -36,13 +38,16 @@ pub record Outside : Type 0 where
   pub asks : Option (List Ask)
   -- what it holds, where it tells it
   pub holds : Option Holdings
-  -- how many asks failed, and how many were of a disk that isn't there
+  -- how many asks failed, and how many were of a disk or a source that isn't there
   pub faults : ℕ
   pub absent : ℕ
 
 -- what stands there under the name, where the host tells it
 abbrev pub disk_of : Outside → List ℕ → Option DiskTold
 disk_of o name = option_and_then (λ h. here_of (h.disks name)) o.holds
+
+abbrev pub source_of : Outside → List ℕ → Option SourceTold
+source_of o name = option_and_then (λ h. here_of (h.sources name)) o.holds
 
 abbrev pub sink_of : Outside → List ℕ → Option SinkTold
 sink_of o name = option_and_then (λ h. here_of (h.sinks name)) o.holds
@@ -55,6 +60,7 @@ with_ask kind name answer asks = option_map (λ before. before ++ record { kind 
 abbrev pub with_loan : AskKind → List ℕ → Holdings → Holdings
 with_loan TakeDisk name h = record h { disks = with_place h.disks name lent }
 with_loan MakeDisk name h = record h { disks = with_place h.disks name lent }
+with_loan TakeSource name h = record h { sources = with_place h.sources name lent }
 with_loan TakeSink name h = record h { sinks = with_place h.sinks name lent }
 
 -- what an ask is answered with; nothing where memory ran out

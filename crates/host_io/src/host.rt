@@ -1,11 +1,11 @@
-//! The trait of a host, which lends disks and sinks by name, and the values that record what it was asked.
+//! The trait of a host, which lends disks, sources and sinks by name, and the values that record what it was asked.
 ghost use Rattle.std.specs.Prelude.{◌≡◌, ◌≢◌, Some, None, Err, IfSome, IfOk, IsSome};
 ghost use Rattle.std.specs.Option.{ForSome};
-ghost use Rattle.host_io.specs.Outside.{Outside, disk_of, answer_of, after_ask, with_disk, with_sink, IsLentDisk, IsLentSink, StartsAs, empty_sink};
+ghost use Rattle.host_io.specs.Outside.{Outside, disk_of, source_of, answer_of, after_ask, with_disk, with_sink, IsLentDisk, IsLentSink, StartsAs, empty_sink};
 ghost use Rattle.host_io.specs.declared.host.HostError.TheVariants.{Missing};
-ghost use Rattle.host_io.specs.declared.host.AskKind.TheVariants.{TakeDisk, MakeDisk, TakeSink};
+ghost use Rattle.host_io.specs.declared.host.AskKind.TheVariants.{TakeDisk, MakeDisk, TakeSource, TakeSink};
 
-use crate::Sink;
+use crate::{Sink, Source};
 use lufs_base::{Bytes, Mem};
 use sector_disk::Disk;
 
@@ -35,6 +35,7 @@ impl From<Mem> for HostError {
 pub enum AskKind {
     TakeDisk,
     MakeDisk,
+    TakeSource,
     TakeSink,
 }
 
@@ -54,10 +55,12 @@ pub struct Ask {
     pub answer: AskAnswer,
 }
 
-/// The outside of a command. It lends disks and sinks by name, takes them back, and tells the time. The name `-` is
-/// standard output (`docs/DEFINITIONS.md`, "What a host and a sink tell").
+/// The outside of a command. It lends disks, sources and sinks by name, takes disks and sinks back, and tells the time.
+/// The name `-` is standard output (`docs/DEFINITIONS.md`, "What a host, a source and a sink tell").
 pub trait Host {
     type D: Disk;
+
+    type S: Source;
 
     type K: Sink;
 
@@ -68,7 +71,7 @@ pub trait Host {
     fn faults(&self) -> u64
         ensures { result ≡ (outside self.now).faults };
 
-    /// How many takes were of a disk that isn't there.
+    /// How many takes were of a disk or a source that isn't there.
     fn absent(&self) -> u64
         ensures { result ≡ (outside self.now).absent };
 
@@ -94,6 +97,12 @@ pub trait Host {
     fn give_disk(&mut self, name: &str, disk: Self::D)
         requires { ForSome (outside self.old).holds (IsLentDisk name.now) }
         ensures { outside self.new ≡ with_disk name.now (Self.D.told disk) (outside self.old) };
+
+    /// Lends the source of that name, which isn't given back.
+    fn take_source(&mut self, name: &str) -> Result<Self::S, HostError>
+        ensures given { IfOk result (λ source. IsSome (outside self.old).holds → source_of (outside self.old) name.now ≡ Some (Self.S.told source)) }
+        ensures missing { result ≡ Err Missing → source_of (outside self.old) name.now ≡ None }
+        ensures after { outside self.new ≡ after_ask TakeSource name.now (answer_of result) (outside self.old) };
 
     /// Makes an empty sink of that name, which replaces an older one, and lends it. It never answers
     /// `Missing`.

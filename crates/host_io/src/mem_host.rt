@@ -4,39 +4,42 @@ ghost use Rattle.std.specs.Option.{option_copied, option_map, ForSome};
 ghost use Rattle.lufs_base.specs.Causes.{counted};
 ghost use Rattle.sector_disk.specs.MemDisk.{told_of as disk_told};
 ghost use Rattle.host_io.specs.MemSink.{new_state as new_sink, told_of as sink_told};
-ghost use Rattle.host_io.specs.MemHost.{new_state, puts_to_fail, zeros_of, there_or_zeros, outside_of, FailedOrMem};
+ghost use Rattle.host_io.specs.MemSource.{new_state as new_source, told_of as source_told, set_to_fail};
+ghost use Rattle.host_io.specs.MemHost.{new_state, calls_to_fail, zeros_of, there_or_zeros, outside_of, FailedOrMem};
 ghost use Rattle.host_io.specs.Named.{places_of};
 ghost use Rattle.host_io.specs.Places.{here, lent, here_of, with_place};
-ghost use Rattle.host_io.specs.Outside.{disk_of, answer_of, after_ask, with_disk, with_sink, IsLentDisk, IsLentSink, StartsAs, empty_sink};
+ghost use Rattle.host_io.specs.Outside.{disk_of, source_of, answer_of, after_ask, with_disk, with_sink, IsLentDisk, IsLentSink, StartsAs, empty_sink};
 ghost use Rattle.host_io.specs.declared.host.HostError.TheVariants.{Missing, Failed};
-ghost use Rattle.host_io.specs.declared.host.AskKind.TheVariants.{TakeDisk, MakeDisk, TakeSink};
+ghost use Rattle.host_io.specs.declared.host.AskKind.TheVariants.{TakeDisk, MakeDisk, TakeSource, TakeSink};
 
 use crate::mem_sink::is_named;
 use crate::named::{Named, find, give_back, lend, lend_new};
-use crate::{Ask, AskAnswer, AskKind, Host, HostError, MemSink};
+use crate::{Ask, AskAnswer, AskKind, Host, HostError, MemSink, MemSource};
 use lufs_base::{Bytes, Mem};
 use sector_disk::MemDisk;
 use std::alloc::Global;
 use std::marker::Model;
 
-// The k-th put of a sink, which is to fail.
+// The k-th call of what has this name, which is to fail.
 #[derive(Debug, Drop)]
-struct PutFail {
-    sink: Bytes,
+struct NamedCall {
+    name: Bytes,
     k: u64,
 }
 
-/// A host in memory, with a time, disks and sinks by name, and the calls that are to fail. It tells
+/// A host in memory, with a time, disks, sources and sinks by name, and the calls that are to fail. It tells
 /// everything.
 #[derive(Debug, Drop)]
 pub struct MemHost {
     alloc: Global,
     moment: u64,
     disks: Vec<Named<MemDisk>>,
+    sources: Vec<Named<MemSource>>,
     sinks: Vec<Named<MemSink>>,
     asks: Vec<Ask>,
     fails: Vec<u64>,
-    put_fails: Vec<PutFail>,
+    take_fails: Vec<NamedCall>,
+    put_fails: Vec<NamedCall>,
     takes: u64,
     faults: u64,
     absent: u64,
@@ -50,9 +53,11 @@ impl Model for MemHost {
     ghost view = { λ h. record {
       moment = h.moment;
       disks = h.disks.items;
+      sources = h.sources.items;
       sinks = h.sinks.items;
       asks = h.asks.items;
       fails = h.fails.items;
+      take_fails = h.take_fails.items;
       put_fails = h.put_fails.items;
       takes = h.takes;
       faults = h.faults;
@@ -109,17 +114,26 @@ fn list(asks: &mut Vec<Ask>, kind: AskKind, name: Bytes, answer: AskAnswer)
     asks.push_reserved(Ask { kind, name, answer });
 }
 
-// The numbers of the puts that are to fail, of the sink of that name.
-fn put_fails_of(alloc: Global, put_fails: &[PutFail], name: &str) -> Result<Vec<u64>, Mem>
-    ensures { IfOk result (λ fails. fails.items ≡ puts_to_fail put_fails.now name.now) }
+// The numbers of the calls that are to fail, of what has that name.
+fn calls_to_fail(alloc: Global, calls: &[NamedCall], name: &str) -> Result<Vec<u64>, Mem>
+    ensures { IfOk result (λ fails. fails.items ≡ calls_to_fail calls.now name.now) }
 {
     let mut fails = Vec::new(alloc);
-    for fail in put_fails {
-        if fail.sink.as_slice() == name.as_bytes() {
-            fails.push(fail.k)?;
+    for call in calls {
+        if call.name.as_slice() == name.as_bytes() {
+            fails.push(call.k)?;
         }
     }
     Ok(fails)
+}
+
+// Adds a call that is to fail. An `Err` changes nothing.
+fn add_call(alloc: Global, calls: &mut Vec<NamedCall>, name: &str, k: u64) -> Result<(), Mem>
+    ensures { calls.new.items ≡ (if is_ok result then calls.old.items ++ record { name = name.now; k = k } ∷ [] else calls.old.items) }
+{
+    let name = Bytes::from_slice(alloc, name.as_bytes())?;
+    calls.push(NamedCall { name, k })?;
+    Ok(())
 }
 
 impl MemHost {
@@ -131,9 +145,11 @@ impl MemHost {
             alloc,
             moment,
             disks: Vec::new(alloc),
+            sources: Vec::new(alloc),
             sinks: Vec::new(alloc),
             asks: Vec::new(alloc),
             fails: Vec::new(alloc),
+            take_fails: Vec::new(alloc),
             put_fails: Vec::new(alloc),
             takes: 0,
             faults: 0,
@@ -152,6 +168,18 @@ impl MemHost {
         Ok(())
     }
 
+    /// Holds a source of these bytes under the name; an older one of that name is dropped. An `Err` changes nothing.
+    pub fn add_source(&mut self, name: &str, bytes: &[u8]) -> Result<(), Mem>
+        ensures ok { OnOk result (places_of self.new.sources ≡ with_place (places_of self.old.sources) name.now (here (new_source bytes.now))) }
+        ensures rest { self.new ≡ record self.old { sources = self.new.sources } }
+        ensures err { OnErr result (self.new ≡ self.old) }
+    {
+        let source = MemSource::from_slice(self.alloc, bytes)?;
+        lend_new(self.alloc, &mut self.sources, name.as_bytes())?;
+        give_back(&mut self.sources, name.as_bytes(), source);
+        Ok(())
+    }
+
     /// Lets the k-th call that takes or makes something fail, counted from 1.
     pub fn fail_host(&mut self, k: u64) -> Result<(), Mem>
         ensures { self.new ≡ (if is_ok result then record self.old { fails = self.old.fails ++ k ∷ [] } else self.old) }
@@ -160,13 +188,18 @@ impl MemHost {
         Ok(())
     }
 
+    /// Lets the k-th take of the source of that name fail, counted from 1, once the host lends it.
+    pub fn fail_take(&mut self, name: &str, k: u64) -> Result<(), Mem>
+        ensures { self.new ≡ (if is_ok result then record self.old { take_fails = self.old.take_fails ++ record { name = name.now; k = k } ∷ [] } else self.old) }
+    {
+        add_call(self.alloc, &mut self.take_fails, name, k)
+    }
+
     /// Lets the k-th put of the sink of that name fail, counted from 1, once the sink is taken again.
     pub fn fail_put(&mut self, name: &str, k: u64) -> Result<(), Mem>
-        ensures { self.new ≡ (if is_ok result then record self.old { put_fails = self.old.put_fails ++ record { sink = name.now; k = k } ∷ [] } else self.old) }
+        ensures { self.new ≡ (if is_ok result then record self.old { put_fails = self.old.put_fails ++ record { name = name.now; k = k } ∷ [] } else self.old) }
     {
-        let sink = Bytes::from_slice(self.alloc, name.as_bytes())?;
-        self.put_fails.push(PutFail { sink, k })?;
-        Ok(())
+        add_call(self.alloc, &mut self.put_fails, name, k)
     }
 
     /// The bytes of the sink of that name, if there is one that isn't lent.
@@ -188,6 +221,8 @@ impl Host for MemHost {
     ghost use Rattle.host_io.specs.MemHost.{outside_of};
 
     type D = MemDisk;
+
+    type S = MemSource;
 
     type K = MemSink;
 
@@ -262,10 +297,42 @@ impl Host for MemHost {
     }
 
     /// Fails exactly where the take was named.
+    fn take_source(&mut self, name: &str) -> Result<MemSource, HostError>
+        ensures named { Contains self.old.fails (counted self.old.takes) → FailedOrMem result }
+        ensures only_named { result ≡ Err Failed → Contains self.old.fails (counted self.old.takes) }
+        ensures value { IfOk result (λ source. option_map (set_to_fail (calls_to_fail self.old.take_fails name.now)) (here_of (places_of self.old.sources name.now)) ≡ Some source) }
+        ensures missing { result ≡ Err Missing → here_of (places_of self.old.sources name.now) ≡ None }
+        ensures given { IfOk result (λ source. IsSome (outside_of self.old).holds → source_of (outside_of self.old) name.now ≡ Some (source_told source)) }
+        ensures told_missing { result ≡ Err Missing → source_of (outside_of self.old) name.now ≡ None }
+        ensures after { outside_of self.new ≡ after_ask TakeSource name.now (answer_of result) (outside_of self.old) }
+    {
+        self.takes = self.takes.saturating_add(1);
+        let kept = make_room(self.alloc, &mut self.asks, name)?;
+        let fails = calls_to_fail(self.alloc, &self.take_fails, name)?;
+        if is_named(&self.fails, self.takes) {
+            self.faults = self.faults.saturating_add(1);
+            list(&mut self.asks, AskKind::TakeSource, kept, AskAnswer::Failed);
+            return Err(HostError::Failed);
+        }
+        let Some(source) = lend(&mut self.sources, name.as_bytes()) else {
+            self.absent = self.absent.saturating_add(1);
+            list(
+                &mut self.asks,
+                AskKind::TakeSource,
+                kept,
+                AskAnswer::Missing,
+            );
+            return Err(HostError::Missing);
+        };
+        list(&mut self.asks, AskKind::TakeSource, kept, AskAnswer::Given);
+        Ok(source.failing(fails))
+    }
+
+    /// Fails exactly where the take was named.
     fn take_sink(&mut self, name: &str) -> Result<MemSink, HostError>
         ensures named { Contains self.old.fails (counted self.old.takes) → FailedOrMem result }
         ensures only_named { result ≡ Err Failed → Contains self.old.fails (counted self.old.takes) }
-        ensures made { IfOk result (λ sink. sink ≡ new_sink (puts_to_fail self.old.put_fails name.now)) }
+        ensures made { IfOk result (λ sink. sink ≡ new_sink (calls_to_fail self.old.put_fails name.now)) }
         ensures given { IfOk result (λ sink. IsSome (outside_of self.old).holds → sink_told sink ≡ empty_sink) }
         ensures not_missing { result ≢ Err Missing }
         ensures after { outside_of self.new ≡ after_ask TakeSink name.now (answer_of result) (outside_of self.old) }
@@ -277,7 +344,7 @@ impl Host for MemHost {
             list(&mut self.asks, AskKind::TakeSink, kept, AskAnswer::Failed);
             return Err(HostError::Failed);
         }
-        let sink = MemSink::new(put_fails_of(self.alloc, &self.put_fails, name)?);
+        let sink = MemSink::new(calls_to_fail(self.alloc, &self.put_fails, name)?);
         lend_new(self.alloc, &mut self.sinks, name.as_bytes())?;
         list(&mut self.asks, AskKind::TakeSink, kept, AskAnswer::Given);
         Ok(sink)

@@ -6,7 +6,7 @@ ghost use Rattle.host_io.specs.Outside.{SinkTold, Puts};
 #[derive(Clone, Copy, Debug, PartialEq, Eq)]
 pub struct SinkFault;
 
-/// Takes bytes, one after the other (`docs/DEFINITIONS.md`, "What a host and a sink tell").
+/// Takes bytes, one after the other (`docs/DEFINITIONS.md`, "What a host, a source and a sink tell").
 pub trait Sink: Drop {
     /// What the sink tells of itself. It always tells its count of faults, and may leave out what it holds.
     ghost told: { Self → SinkTold };

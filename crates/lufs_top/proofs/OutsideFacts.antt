@@ -6,11 +6,12 @@ use Rattle.std.proofs.lemmas.Slice.Eq.{bytes_eq-Decides}
 use Rattle.lufs_base.specs.Causes.{counted}
 use Rattle.sector_disk.specs.Disk.{DiskTold}
 use Rattle.host_io.specs.declared.host.AskKind.{AskKind}
-use Rattle.host_io.specs.declared.host.AskKind.TheVariants.{TakeDisk, MakeDisk, TakeSink}
+use Rattle.host_io.specs.declared.host.AskKind.TheVariants.{TakeDisk, MakeDisk, TakeSource, TakeSink}
 use Rattle.host_io.specs.declared.host.AskAnswer.TheVariants as answers
 use Rattle.host_io.specs.declared.host.HostError.{HostError}
 use Rattle.host_io.specs.declared.host.HostError.TheVariants as hosts
-use Rattle.host_io.specs.Outside.{Outside, Holdings, SinkTold, disk_of, sink_of, after_ask, with_loan, refused_with, with_disk, with_sink}
+use Rattle.host_io.specs.Source.{SourceTold}
+use Rattle.host_io.specs.Outside.{Outside, Holdings, SinkTold, disk_of, source_of, sink_of, after_ask, with_loan, refused_with, with_disk, with_sink}
 use Rattle.host_io.specs.Places.{Place, Places, here, here_of, with_place}
 use Rattle.lufs_top.specs.Run.{IsNoLower}
 
@@ -37,6 +38,7 @@ pub record Keeps (disk sink : List ℕ → Type 0) (old new : Outside) : Type 0 
   pub moment : new.moment ≡ old.moment
   pub tells : is_some new.holds ≡ is_some old.holds
   pub disks : (q : List ℕ) → disk q → disk_of new q ≡ disk_of old q
+  pub sources : (q : List ℕ) → source_of new q ≡ source_of old q
   pub sinks : (q : List ℕ) → sink q → sink_of new q ≡ sink_of old q
   pub faults : IsNoLower old.faults new.faults
   pub absent : IsNoLower old.absent new.absent
@@ -46,6 +48,7 @@ keeps_both disk sink a b c first second = record {
   moment = second.moment ∙ first.moment;
   tells = second.tells ∙ first.tells;
   disks = λ q is. second.disks q is ∙ first.disks q is;
+  sources = λ q. second.sources q ∙ first.sources q;
   sinks = λ q is. second.sinks q is ∙ first.sinks q is;
   faults = lower_both a.faults b.faults c.faults first.faults second.faults;
   absent = lower_both a.absent b.absent c.absent first.absent second.absent;
@@ -56,6 +59,7 @@ keeps_itself disk sink o new is = record {
   moment = ap (λ (x : Outside). x.moment) is;
   tells = ap (λ (x : Outside). is_some x.holds) is;
   disks = λ q _. ap (λ (x : Outside). disk_of x q) is;
+  sources = λ q. ap (λ (x : Outside). source_of x q) is;
   sinks = λ q _. ap (λ (x : Outside). sink_of x q) is;
   faults = same_count o.faults new.faults (sym (ap (λ (x : Outside). x.faults) is));
   absent = same_count o.absent new.absent (sym (ap (λ (x : Outside). x.absent) is));
@@ -65,20 +69,39 @@ keeps_itself disk sink o new is = record {
 abbrev pub disk_in : Option Holdings → List ℕ → Option DiskTold
 disk_in holds q = option_and_then (λ (h : Holdings). here_of (h.disks q)) holds
 
+abbrev pub source_in : Option Holdings → List ℕ → Option SourceTold
+source_in holds q = option_and_then (λ (h : Holdings). here_of (h.sources q)) holds
+
 abbrev pub sink_in : Option Holdings → List ℕ → Option SinkTold
 sink_in holds q = option_and_then (λ (h : Holdings). here_of (h.sinks q)) holds
+
+-- it is asked for a disk
+abbrev pub AsksDisk : AskKind → Type 0
+AsksDisk TakeDisk = Unit {0}
+AsksDisk MakeDisk = Unit {0}
+AsksDisk TakeSource = ⊥
+AsksDisk TakeSink = ⊥
 
 disk_in-ask : (kind : AskKind) (name q : List ℕ) (holds : Option Holdings) → q ≢ name → disk_in (option_map (with_loan kind name) holds) q ≡ disk_in holds q
 disk_in-ask kind name q None other = refl
 disk_in-ask TakeDisk name q (Some h) other = ap here_of (other_place h.disks name _ q other)
 disk_in-ask MakeDisk name q (Some h) other = ap here_of (other_place h.disks name _ q other)
+disk_in-ask TakeSource name q (Some h) other = refl
 disk_in-ask TakeSink name q (Some h) other = refl
 
-sink_in-disk : (kind : AskKind) (is : kind ≢ TakeSink) (name q : List ℕ) (holds : Option Holdings) → sink_in (option_map (with_loan kind name) holds) q ≡ sink_in holds q
+source_in-disk : (kind : AskKind) (is : AsksDisk kind) (name q : List ℕ) (holds : Option Holdings) → source_in (option_map (with_loan kind name) holds) q ≡ source_in holds q
+source_in-disk kind is name q None = refl
+source_in-disk TakeDisk is name q (Some h) = refl
+source_in-disk MakeDisk is name q (Some h) = refl
+source_in-disk TakeSource is name q (Some h) = absurd is
+source_in-disk TakeSink is name q (Some h) = absurd is
+
+sink_in-disk : (kind : AskKind) (is : AsksDisk kind) (name q : List ℕ) (holds : Option Holdings) → sink_in (option_map (with_loan kind name) holds) q ≡ sink_in holds q
 sink_in-disk kind is name q None = refl
 sink_in-disk TakeDisk is name q (Some h) = refl
 sink_in-disk MakeDisk is name q (Some h) = refl
-sink_in-disk TakeSink is name q (Some h) = absurd (is refl)
+sink_in-disk TakeSource is name q (Some h) = absurd is
+sink_in-disk TakeSink is name q (Some h) = absurd is
 
 loan_tells : (kind : AskKind) (name : List ℕ) (holds : Option Holdings) → is_some (option_map (with_loan kind name) holds) ≡ is_some holds
 loan_tells kind name None = refl
@@ -87,13 +110,13 @@ loan_tells kind name (Some h) = refl
 -- an ask that gave nothing keeps what is held
 pub refused_keeps : (kind : AskKind) (name : List ℕ) (error : HostError) (disk sink : List ℕ → Type 0) (o new : Outside) → new ≡ after_ask kind name (refused_with error) o → Keeps disk sink o new
 refused_keeps kind name hosts.Missing disk sink o new is = keeps_both disk sink o (after_ask kind name (refused_with hosts.Missing) o) new
-    (record { moment = refl; tells = refl; disks = λ q _. refl; sinks = λ q _. refl; faults = same_count _ _ refl; absent = counted_no_lower o.absent }) (keeps_itself disk sink _ new is)
+    (record { moment = refl; tells = refl; disks = λ q _. refl; sources = λ q. refl; sinks = λ q _. refl; faults = same_count _ _ refl; absent = counted_no_lower o.absent }) (keeps_itself disk sink _ new is)
 refused_keeps kind name hosts.Failed disk sink o new is = keeps_both disk sink o (after_ask kind name (refused_with hosts.Failed) o) new
-    (record { moment = refl; tells = refl; disks = λ q _. refl; sinks = λ q _. refl; faults = counted_no_lower o.faults; absent = same_count _ _ refl }) (keeps_itself disk sink _ new is)
+    (record { moment = refl; tells = refl; disks = λ q _. refl; sources = λ q. refl; sinks = λ q _. refl; faults = counted_no_lower o.faults; absent = same_count _ _ refl }) (keeps_itself disk sink _ new is)
 refused_keeps kind name hosts.Mem disk sink o new is = keeps_itself disk sink o new is
 
 -- a disk that was lent and came back under its name
-pub disk_back_keeps : (kind : AskKind) → kind ≢ TakeSink → (name : List ℕ) (now : DiskTold) (sink : List ℕ → Type 0) (o new : Outside)
+pub disk_back_keeps : (kind : AskKind) → AsksDisk kind → (name : List ℕ) (now : DiskTold) (sink : List ℕ → Type 0) (o new : Outside)
     → new ≡ with_disk name now (after_ask kind name (Some answers.Given) o) → Keeps (λ q. q ≢ name) sink o new
 disk_back_keeps kind is name now sink o new same =
     let mid = with_disk name now (after_ask kind name (Some answers.Given) o) in
@@ -101,6 +124,7 @@ disk_back_keeps kind is name now sink o new same =
       moment = refl;
       tells = disk_tells kind name now o.holds;
       disks = λ q other. disk_other kind name now q o.holds other;
+      sources = λ q. disk_sources kind is name now q o.holds;
       sinks = λ q _. disk_sinks kind is name now q o.holds;
       faults = same_count _ _ refl;
       absent = same_count _ _ refl;
@@ -115,7 +139,12 @@ disk_back_keeps kind is name now sink o new same =
     disk_other kind name now q None other = refl
     disk_other kind name now q (Some h) other = ap here_of (other_place (with_loan kind name h).disks name (here now) q other) ∙ disk_in-ask kind name q (Some h) other
 
-    disk_sinks : (kind : AskKind) → kind ≢ TakeSink → (name : List ℕ) (now : DiskTold) (q : List ℕ) (holds : Option Holdings)
+    disk_sources : (kind : AskKind) → AsksDisk kind → (name : List ℕ) (now : DiskTold) (q : List ℕ) (holds : Option Holdings)
+        → source_in (option_map {T = Holdings} (λ h. record h { disks = with_place h.disks name (here now) }) (option_map (with_loan kind name) holds)) q ≡ source_in holds q
+    disk_sources kind is name now q None = refl
+    disk_sources kind is name now q (Some h) = source_in-disk kind is name q (Some h)
+
+    disk_sinks : (kind : AskKind) → AsksDisk kind → (name : List ℕ) (now : DiskTold) (q : List ℕ) (holds : Option Holdings)
         → sink_in (option_map {T = Holdings} (λ h. record h { disks = with_place h.disks name (here now) }) (option_map (with_loan kind name) holds)) q ≡ sink_in holds q
     disk_sinks kind is name now q None = refl
     disk_sinks kind is name now q (Some h) = sink_in-disk kind is name q (Some h)
@@ -127,11 +156,16 @@ sink_back_keeps name disk o lent same =
       moment = refl;
       tells = loan_tells TakeSink name o.holds;
       disks = λ q _. no_disk o.holds q;
+      sources = λ q. no_source o.holds q;
       sinks = λ q other. other_sink o.holds q other;
       faults = same_count _ _ refl;
       absent = same_count _ _ refl;
     }) (keeps_itself disk _ _ lent same)
   where
+    no_source : (holds : Option Holdings) (q : List ℕ) → source_in (option_map (with_loan TakeSink name) holds) q ≡ source_in holds q
+    no_source None q = refl
+    no_source (Some h) q = refl
+
     no_disk : (holds : Option Holdings) (q : List ℕ) → disk_in (option_map (with_loan TakeSink name) holds) q ≡ disk_in holds q
     no_disk None q = refl
     no_disk (Some h) q = refl
@@ -146,6 +180,7 @@ sink_given_keeps name said disk o new same =
       moment = refl;
       tells = tells o.holds;
       disks = λ q _. no_disk o.holds q;
+      sources = λ q. no_source o.holds q;
       sinks = λ q other. other_sink o.holds q other;
       faults = same_count _ _ refl;
       absent = same_count _ _ refl;
@@ -154,6 +189,10 @@ sink_given_keeps name said disk o new same =
     tells : (holds : Option Holdings) → is_some (option_map {T = Holdings} (λ h. record h { sinks = with_place h.sinks name (here said) }) holds) ≡ is_some holds
     tells None = refl
     tells (Some h) = refl
+
+    no_source : (holds : Option Holdings) (q : List ℕ) → source_in (option_map {T = Holdings} (λ h. record h { sinks = with_place h.sinks name (here said) }) holds) q ≡ source_in holds q
+    no_source None q = refl
+    no_source (Some h) q = refl
 
     no_disk : (holds : Option Holdings) (q : List ℕ) → disk_in (option_map {T = Holdings} (λ h. record h { sinks = with_place h.sinks name (here said) }) holds) q ≡ disk_in holds q
     no_disk None q = refl

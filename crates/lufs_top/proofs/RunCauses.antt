@@ -37,7 +37,7 @@ reading_back : (volume : List ℕ) (IsEnding : DiskTold → Ending → Type 0) (
 reading_back volume IsEnding ending old new (not_lent error is lent) = λ there.
     ap is_some ((refused_keeps TakeDisk volume error Any Any old new lent.after).disks volume tt) ∙ there
 reading_back volume IsEnding ending old new (read before now lent unwritten fails is) = λ there.
-    let tells = (disk_back_keeps TakeDisk (λ p. cc) volume now Any old new lent.back).tells ∙ tells_of_disk old.holds old volume refl there in
+    let tells = (disk_back_keeps TakeDisk tt volume now Any old new lent.back).tells ∙ tells_of_disk old.holds old volume refl there in
     ap is_some (disk_there volume now _ new lent.back tells)
 
 command_back : (command : Option Command) (ending : Ending) (old new : Outside) → Ran command ending old new → IsBack (volume_of command) old new
@@ -49,7 +49,7 @@ command_back (Some (mkfs volume numbers)) ending old new (no_memory range is sam
 command_back (Some (mkfs volume numbers)) ending old new (not_made error range is made) = λ there.
     ap is_some ((refused_keeps MakeDisk volume error Any Any old new made.after).disks volume tt) ∙ there
 command_back (Some (mkfs volume numbers)) ending old new (worked moment told small range before now made crash fails is) = λ there.
-    let tells = (disk_back_keeps MakeDisk (λ p. cc) volume now Any old new made.back).tells ∙ tells_of_disk old.holds old volume refl there in
+    let tells = (disk_back_keeps MakeDisk tt volume now Any old new made.back).tells ∙ tells_of_disk old.holds old volume refl there in
     ap is_some (disk_there volume now _ new made.back tells)
 
 -- through standard output, which is no disk
@@ -184,7 +184,7 @@ FaultRose volume old new = IsSome old.holds → Rose old.faults new.faults ⊎ I
 reading_fault : (volume : List ℕ) (IsEnding : DiskTold → Ending → Type 0) (ending : Ending) (old new : Outside) → HasRead volume IsEnding ending old new → IsDiskFault ending → FaultRose (Some volume) old new
 reading_fault volume IsEnding ending old new (not_lent error is lent) fault tells = inl (failure_counted error volume ending old is fault new.faults (ap (λ (o : Outside). o.faults) lent.after))
 reading_fault volume IsEnding ending old new (read before now lent unwritten fails is) fault tells =
-    let still = (disk_back_keeps TakeDisk (λ p. cc) volume now Any old new lent.back).tells ∙ tells in
+    let still = (disk_back_keeps TakeDisk tt volume now Any old new lent.back).tells ∙ tells in
     inr (lent_rises _ _ before now (lent.given tells) (disk_there volume now _ new lent.back still) (fails.failed fault).faults)
 
 command_fault : (command : Option Command) (ending : Ending) (old new : Outside) → Ran command ending old new → IsDiskFault ending → FaultRose (volume_of command) old new
@@ -201,7 +201,7 @@ command_fault (Some (mkfs volume numbers)) ending old new (not_made error range 
     make_counted hosts.Mem name (DiskFault at) old is fault faults after = absurd is
     make_counted error name ending old is fault faults after = absurd fault
 command_fault (Some (mkfs volume numbers)) ending old new (worked moment told small range before now made crash fails is) fault tells =
-    let still = (disk_back_keeps MakeDisk (λ p. cc) volume now Any old new made.back).tells ∙ tells in
+    let still = (disk_back_keeps MakeDisk tt volume now Any old new made.back).tells ∙ tells in
     inr (made_rises _ _ _ before now (made.given tells) (disk_there volume now _ new made.back still) (fails.failed fault).faults)
 
 -- what rose between the loan of standard output and its return rose in the run

@@ -173,14 +173,14 @@ run_asks command status old new (ran ending out said done went empty says back) 
 
 -- what is kept of fewer names
 fewer : (P Q S : List ℕ → Type 0) (old new : Outside) → ((q : List ℕ) → Q q → P q) → Keeps P S old new → Keeps Q S old new
-fewer P Q S old new to keeps = record { moment = keeps.moment; tells = keeps.tells; disks = λ q is. keeps.disks q (to q is); sinks = keeps.sinks; faults = keeps.faults; absent = keeps.absent }
+fewer P Q S old new to keeps = record { moment = keeps.moment; tells = keeps.tells; disks = λ q is. keeps.disks q (to q is); sources = keeps.sources; sinks = keeps.sinks; faults = keeps.faults; absent = keeps.absent }
 
 unnamed : (volume q : List ℕ) → Some volume ≢ Some q → q ≢ volume
 unnamed volume q other same = other (ap (λ (n : List ℕ). Some n) (sym same))
 
 reading_keeps_others : (volume : List ℕ) (IsEnding : DiskTold → Ending → Type 0) (ending : Ending) (S : List ℕ → Type 0) (old new : Outside) → HasRead volume IsEnding ending old new → Keeps (λ q. Some volume ≢ Some q) S old new
 reading_keeps_others volume IsEnding ending S old new (not_lent error is lent) = refused_keeps TakeDisk volume error _ S old new lent.after
-reading_keeps_others volume IsEnding ending S old new (read before now lent unwritten fails is) = fewer (λ q. q ≢ volume) _ S old new (unnamed volume) (disk_back_keeps TakeDisk (λ p. cc) volume now S old new lent.back)
+reading_keeps_others volume IsEnding ending S old new (read before now lent unwritten fails is) = fewer (λ q. q ≢ volume) _ S old new (unnamed volume) (disk_back_keeps TakeDisk tt volume now S old new lent.back)
 
 command_keeps_others : (command : Option Command) (ending : Ending) (S : List ℕ → Type 0) (old new : Outside) → Ran command ending old new → Keeps (λ q. volume_of command ≢ Some q) S old new
 command_keeps_others None ending S old new went = keeps_itself _ S old new went.1
@@ -189,7 +189,7 @@ command_keeps_others (Some (check volume)) ending S old new went = reading_keeps
 command_keeps_others (Some (mkfs volume numbers)) ending S old new (out_of_range bad range is same) = keeps_itself _ S old new same
 command_keeps_others (Some (mkfs volume numbers)) ending S old new (no_memory range is same) = keeps_itself _ S old new same
 command_keeps_others (Some (mkfs volume numbers)) ending S old new (not_made error range is made) = refused_keeps MakeDisk volume error _ S old new made.after
-command_keeps_others (Some (mkfs volume numbers)) ending S old new (worked moment told small range before now made crash fails is) = fewer (λ q. q ≢ volume) _ S old new (unnamed volume) (disk_back_keeps MakeDisk (λ p. cc) volume now S old new made.back)
+command_keeps_others (Some (mkfs volume numbers)) ending S old new (worked moment told small range before now made crash fails is) = fewer (λ q. q ≢ volume) _ S old new (unnamed volume) (disk_back_keeps MakeDisk tt volume now S old new made.back)
 
 pub run_keeps : (command : Option Command) (status : ℕ) (old new : Outside) → Runs command status old new → Keeps (λ q. volume_of command ≢ Some q) (λ q. q ≢ standard_output) old new
 run_keeps command status old new (no_output error not_missing is after) = refused_keeps TakeSink standard_output error _ _ old new after
@@ -201,4 +201,4 @@ run_keeps command status old new (ran ending out said done went empty says back)
 pub run_others : (command : Option Command) (status : ℕ) (old new : Outside) → Runs command status old new → KeepsOthers (volume_of command) old new
 run_others command status old new r =
     let keeps = run_keeps command status old new r in
-    record { moment = keeps.moment; tells = keeps.tells; disks = keeps.disks; sinks = keeps.sinks; faults = keeps.faults; absent = keeps.absent }
+    record { moment = keeps.moment; tells = keeps.tells; disks = keeps.disks; sources = keeps.sources; sinks = keeps.sinks; faults = keeps.faults; absent = keeps.absent }

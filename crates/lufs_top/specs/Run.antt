@@ -13,7 +13,7 @@ use Rattle.host_io.specs.declared.host.AskKind.{AskKind}
 use Rattle.host_io.specs.declared.host.AskKind.TheVariants.{TakeDisk, MakeDisk, TakeSink}
 use Rattle.host_io.specs.declared.host.Ask.{Ask}
 use Rattle.host_io.specs.declared.host.AskAnswer.TheVariants.{Given}
-use Rattle.host_io.specs.Outside.{Outside, SinkTold, disk_of, sink_of, refused_with, after_ask, with_sink, empty_sink}
+use Rattle.host_io.specs.Outside.{Outside, SinkTold, disk_of, source_of, sink_of, refused_with, after_ask, with_sink, empty_sink}
 use Rattle.lufs_top.specs.declared.ending.Ending.{Ending}
 use Rattle.lufs_top.specs.declared.ending.Ending.TheVariants.{Usage}
 use Rattle.lufs_top.specs.Ending.{status_of, text_of}
@@ -87,6 +87,7 @@ pub record KeepsOthers (volume : Option (List ℕ)) (old new : Outside) : Type 0
   pub moment : new.moment ≡ old.moment
   pub tells : is_some new.holds ≡ is_some old.holds
   pub disks : (name : List ℕ) → volume ≢ Some name → disk_of new name ≡ disk_of old name
+  pub sources : (name : List ℕ) → source_of new name ≡ source_of old name
   pub sinks : (name : List ℕ) → name ≢ standard_output → sink_of new name ≡ sink_of old name
   pub faults : IsNoLower old.faults new.faults
   pub absent : IsNoLower old.absent new.absent

@@ -1,8 +1,11 @@
 //! The host of the program: files by their paths, standard output, and the clock.
-ghost use Rattle.std.specs.Prelude.{None};
+ghost use Rattle.std.specs.Prelude.{◌≡◌, None};
+ghost use Rattle.lufs_base.specs.Causes.{counted};
+ghost use Rattle.host_io.specs.declared.host.HostError.TheVariants.{Missing, Failed};
 
 use crate::file_disk::FileDisk;
 use crate::file_sink::FileSink;
+use crate::file_source::FileSource;
 use host_io::{Host, HostError};
 use std::fs::{File, FileType, OpenFile, OpenOptions};
 use std::os::unix::fs::{FileExt, FileTypeExt};
@@ -30,6 +33,28 @@ impl<R: Drop> FileHost<R> {
             faults: 0,
             absent: 0,
         }
+    }
+}
+
+impl<R> FileHost<R> {
+    // Counts a take of what isn't there.
+    fn missing(&mut self) -> HostError
+        ensures error { result ≡ Missing }
+        ensures absent { self.new.absent ≡ counted self.old.absent }
+        ensures faults { self.new.faults ≡ self.old.faults }
+    {
+        self.absent = self.absent.saturating_add(1);
+        HostError::Missing
+    }
+
+    // Counts a take or a make that failed.
+    fn failed(&mut self) -> HostError
+        ensures error { result ≡ Failed }
+        ensures absent { self.new.absent ≡ self.old.absent }
+        ensures faults { self.new.faults ≡ counted self.old.faults }
+    {
+        self.faults = self.faults.saturating_add(1);
+        HostError::Failed
     }
 }
 
@@ -87,6 +112,14 @@ fn open_or_make<R: Files>(rt: &R, name: &str, sectors: u64) -> io::Result<FileDi
     }
 }
 
+// Only a regular file is read. Opening a fifo could wait forever, and reading a device could never end.
+fn open_source<R: Files>(rt: &R, name: &str) -> io::Result<FileSource<R::File>> {
+    if !fs::metadata(rt, name)?.file_type().is_file() {
+        return Err(io::Error::from(io::ErrorKind::InvalidInput));
+    }
+    Ok(FileSource::new(File::open(rt, name)?))
+}
+
 // Where standard output is closed, the next file that is opened would stand in its place and get what
 // is printed. So an empty write finds out first.
 fn open_sink<R: Files + Print + Drop>(rt: R, name: &str) -> io::Result<FileSink<R, R::File>> {
@@ -102,6 +135,8 @@ where
     R::File: FileExt,
 {
     type D = FileDisk<R::File>;
+
+    type S = FileSource<R::File>;
 
     type K = FileSink<R, R::File>;
 
@@ -136,24 +171,15 @@ where
     fn take_disk(&mut self, name: &str) -> Result<FileDisk<R::File>, HostError> {
         match open_volume(&self.rt, name) {
             Ok(disk) => Ok(disk),
-            Err(error) if error.kind() == io::ErrorKind::NotFound => {
-                self.absent = self.absent.saturating_add(1);
-                Err(HostError::Missing)
-            }
-            Err(_) => {
-                self.faults = self.faults.saturating_add(1);
-                Err(HostError::Failed)
-            }
+            Err(error) if error.kind() == io::ErrorKind::NotFound => Err(self.missing()),
+            Err(_) => Err(self.failed()),
         }
     }
 
     fn make_disk(&mut self, name: &str, sectors: u64) -> Result<FileDisk<R::File>, HostError> {
         match open_or_make(&self.rt, name, sectors) {
             Ok(disk) => Ok(disk),
-            Err(_) => {
-                self.faults = self.faults.saturating_add(1);
-                Err(HostError::Failed)
-            }
+            Err(_) => Err(self.failed()),
         }
     }
 
@@ -161,13 +187,20 @@ where
         drop(disk);
     }
 
+    /// Opens a regular file. Anything else of that name is a failure, and so is every error but that there is
+    /// nothing of that name.
+    fn take_source(&mut self, name: &str) -> Result<FileSource<R::File>, HostError> {
+        match open_source(&self.rt, name) {
+            Ok(source) => Ok(source),
+            Err(error) if error.kind() == io::ErrorKind::NotFound => Err(self.missing()),
+            Err(_) => Err(self.failed()),
+        }
+    }
+
     fn take_sink(&mut self, name: &str) -> Result<FileSink<R, R::File>, HostError> {
         match open_sink(self.rt, name) {
             Ok(sink) => Ok(sink),
-            Err(_) => {
-                self.faults = self.faults.saturating_add(1);
-                Err(HostError::Failed)
-            }
+            Err(_) => Err(self.failed()),
         }
     }
 

@@ -3,11 +3,11 @@ mod fake;
 
 use crate::{FileDisk, FileHost};
 use fake::Call::{
-    Append, Create, Look, OpenDirectory, OpenToRead, OpenToWrite, Print, Read, SeekEnd, SetLength,
-    Sync, SyncDirectory, Write,
+    Append, Create, Look, Next, OpenDirectory, OpenToRead, OpenToWrite, Print, Read, SeekEnd,
+    SetLength, Sync, SyncDirectory, Write,
 };
 use fake::{Fake, FakeFile, System};
-use host_io::{Host, HostError, Sink};
+use host_io::{Host, HostError, Sink, Source, read_whole};
 use sector_disk::Disk;
 use std::fs;
 use std::test::Fail;
@@ -47,13 +47,21 @@ fn files_as_disks_and_sinks(rt: HostRuntime) -> Result<(), Fail> {
     assert_eq!(rt; disk.sectors(), 0);
     host.give_disk("volume.out", disk);
 
+    let mut source = host.take_source("volume.out").map_err(|_| "no source")?;
+    let bytes = read_whole(rt.alloc(), &mut source, 7).map_err(|_| "not read")?;
+    assert_eq!(rt; bytes.as_slice(), b"one two".as_slice());
+    assert_eq!(rt; source.faults(), 0);
+
     // A directory is neither a volume nor missing.
     assert!(rt; matches!(host.take_disk("."), Err(HostError::Failed)));
     assert!(rt; matches!(host.make_disk(".", 4), Err(HostError::Failed)));
     assert!(rt; matches!(host.take_disk("volume/x"), Err(HostError::Failed)));
     let folder = host.take_sink("no/such/folder");
     assert!(rt; matches!(folder, Err(HostError::Failed)));
-    assert_eq!(rt; (host.faults(), host.absent()), (4, 1));
+    assert!(rt; matches!(host.take_source("."), Err(HostError::Failed)));
+    let missing = host.take_source("no_such_script");
+    assert!(rt; matches!(missing, Err(HostError::Missing)));
+    assert_eq!(rt; (host.faults(), host.absent()), (5, 2));
     Ok(())
 }
 
@@ -154,6 +162,28 @@ fn short_reads_and_writes(rt: HostRuntime) -> Result<(), Fail> {
     assert!(rt; disk.read(1, &mut [0; 512]).is_err());
     assert!(rt; disk.write(1, &[7; 512]).is_err());
     assert_eq!(rt; disk.faults(), 2);
+    Ok(())
+}
+
+// A source goes on where the system cut a read short, and counts each read that fails.
+#[test]
+fn calls_of_a_source(rt: HostRuntime) -> Result<(), Fail> {
+    let system = System::new(rt.alloc(), "script", ".");
+    system.is_there.set(true);
+    system.bytes.try_borrow_mut()?.extend_from_slice(b"df\ndf")?;
+    system.most.set(4);
+    let mut host = FileHost::new(Fake { system: &system });
+    let mut source = host.take_source("script").map_err(|_| "no source")?;
+    let mut piece = [0; 5];
+    assert_eq!(rt; source.take(&mut piece).map_err(|_| "not taken")?, 4);
+    assert_eq!(rt; source.take(&mut piece).map_err(|_| "not taken")?, 1);
+    assert_eq!(rt; source.take(&mut piece).map_err(|_| "not taken")?, 0);
+    system.fails_at.set(5);
+    assert!(rt; source.take(&mut piece).is_err());
+    assert_eq!(rt; source.faults(), 1);
+    let calls = system.calls.try_borrow()?;
+    let expected = [Look, OpenToRead, Next(5), Next(5), Next(5), Next(5)];
+    assert_eq!(rt; calls.as_slice(), expected.as_slice());
     Ok(())
 }
 

@@ -27,6 +27,7 @@ pub(super) enum Call {
     SyncData,
     SyncDirectory,
     Append(usize),
+    Next(usize),
     Print(usize),
 }
 
@@ -100,6 +101,8 @@ pub(super) struct Fake<'a> {
 pub(super) struct FakeFile<'a> {
     system: &'a System,
     is_directory: bool,
+    // Where the next read begins.
+    place: usize,
 }
 
 impl<'a> Files for Fake<'a> {
@@ -115,6 +118,7 @@ impl<'a> Files for Fake<'a> {
             return Ok(FakeFile {
                 system,
                 is_directory: true,
+                place: 0,
             });
         }
         if path != system.name || system.is_there.get() == how.asks_create_new() {
@@ -124,6 +128,7 @@ impl<'a> Files for Fake<'a> {
         Ok(FakeFile {
             system,
             is_directory: false,
+            place: 0,
         })
     }
 
@@ -264,8 +269,14 @@ impl<'a> Seek for FakeFile<'a> {
 }
 
 impl<'a> Read for FakeFile<'a> {
-    fn read(&mut self, _buf: &mut [u8]) -> io::Result<usize> {
-        Err(Error::from(ErrorKind::Unsupported))
+    fn read(&mut self, buf: &mut [u8]) -> io::Result<usize> {
+        self.system.note(Call::Next(buf.len()))?;
+        let bytes = self.system.bytes.try_borrow()?;
+        let rest = bytes.as_slice().get(self.place..).unwrap_or(&[]);
+        let n = buf.len().min(rest.len()).min(self.system.most.get());
+        buf[..n].copy_from_slice(&rest[..n]);
+        self.place = self.place.saturating_add(n);
+        Ok(n)
     }
 }
 

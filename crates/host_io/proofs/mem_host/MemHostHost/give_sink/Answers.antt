@@ -1,5 +1,6 @@
 use Rattle.std.proofs.Common.{◌≡◌, refl}
 use Rattle.sector_disk.specs.MemDisk.{told_of as disk_told}
+use Rattle.host_io.specs.MemSource.{told_of as source_told}
 use Rattle.host_io.specs.MemSink.{told_of as sink_told}
 use Rattle.host_io.specs.Places.{lent, here, place_map}
 use Rattle.host_io.specs.Named.{places_of}
@@ -18,4 +19,4 @@ pub returns-clause-told : goal.returns-clause-told
 returns-clause-told c =
     let s = c.self.inside in
     rw (← c.self.view_is, ← c.as_bytes.ensures.value)
-    (outside_with-sink s.moment s.faults s.absent s.asks.items _ refl c.as_bytes.result.now (places_of c.give_back.new.entries.items) (places_of s.sinks.items) (λ q. place_map disk_told (places_of s.disks.items q)) (here c.args.sink) c.give_back.ensures)
+    (outside_with-sink s.moment s.faults s.absent s.asks.items _ refl c.as_bytes.result.now (places_of c.give_back.new.entries.items) (places_of s.sinks.items) (λ q. place_map disk_told (places_of s.disks.items q)) (λ q. place_map source_told (places_of s.sources.items q)) (here c.args.sink) c.give_back.ensures)

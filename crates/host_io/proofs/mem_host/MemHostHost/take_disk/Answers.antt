@@ -1,5 +1,6 @@
 use Rattle.std.proofs.Common.{rules}
 use Rattle.host_io.specs.MemSink.{told_of as sink_told}
+use Rattle.host_io.specs.MemSource.{told_of as source_told}
 use Rattle.host_io.specs.Named.{places_of}
 use Rattle.host_io.specs.Places.{lent, place_map}
 use Rattle.host_io.proofs.HostTold.{outside_with-disk}
@@ -13,4 +14,4 @@ returns-then-is_named-clause-only_named c =
 pub returns-clause-after : goal.returns-clause-after
 returns-clause-after c =
     let s = c.self.inside in
-    rw (← c.self.view_is) (outside_with-disk s.moment s.faults s.absent c.list-2.new.asks.items _ (search rules) c.args.name.now (places_of c.lend.new.entries.items) (places_of s.disks.items) (λ q. place_map sink_told (places_of s.sinks.items q)) lent (rw c.as_bytes.ensures.value at c.in-Some.ensures.some))
+    rw (← c.self.view_is) (outside_with-disk s.moment s.faults s.absent c.list-2.new.asks.items _ (search rules) c.args.name.now (places_of c.lend.new.entries.items) (places_of s.disks.items) (λ q. place_map source_told (places_of s.sources.items q)) (λ q. place_map sink_told (places_of s.sinks.items q)) lent (rw c.as_bytes.ensures.value at c.in-Some.ensures.some))
