@@ -1,6 +1,7 @@
 //! Lines, replies and a history, by the examples of `docs/SCRIPTS.md`.
-use crate::{history_text, is_short, read_line, reply_text, session_text};
+use crate::{LinesError, history_text, is_short, lines_of, read_line, reply_text, session_text};
 use lufs_base::{Bytes, Epoch, Name};
+use std::process::Abort;
 use std::test::Fail;
 use tree_types::{
     Call, Cause, Commit, Cred, Entry, Line, NameList, PathText, Refusal, Reply, RollNote, StatInfo,
@@ -9,85 +10,94 @@ use tree_types::{
 
 const CALLER: Cred = Cred { uid: 5, gid: 6 };
 
-// What a line is: skipped, no call, a call, or one that waits for its commit.
-fn kind_of(line: &Option<Line>) -> &'static str {
+// What a line is: `-` skipped, `?` no call, `.` a call, `!` one that waits for its commit.
+fn kind_of(line: &Option<Line>) -> u8 {
     match line {
-        None => "skipped",
+        None => b'-',
         Some(line) => match (&line.call, line.sync) {
-            (None, _) => "syntax",
-            (Some(_), false) => "call",
-            (Some(_), true) => "waits",
+            (None, _) => b'?',
+            (Some(_), false) => b'.',
+            (Some(_), true) => b'!',
         },
     }
 }
 
+// Lines, each after what it is.
+const KINDS: &str = "-
+-   
+-#create /a 644\t\r
+? # x
+?df\r
+?df\t
+?stat /\u{e4}
+.  create   /a  644 
+.create /a 0644
+?create /a 1644
+?create /a 648
+?create a 644
+?create /a
+!!create /a 644
+?! create /a 644
+?!!create /a 644
+?Create /a 644
+.mkdir /d 755
+.link /a /b
+?link /a b
+.symlink x /l
+.rename /a /b
+.remove /a
+?rmdir /d /d
+.rmdir /d
+.chmod /a 600
+.chown /a 4294967295 0
+?chown /a 4294967296 0
+.write /a 0 0aF9
+?write /a 0 0aF
+?write /a 0 0x
+?write /a 0
+.trunc /a 18446744073709551615
+?trunc /a 18446744073709551616
+?trunc /a 00
+?trunc /a +1
+!fsync /a
+?!fsync /a
+.read /a 0 4096
+?read /a 0 4097
+?read /a 0 0
+.stat /a
+.lstat /a
+.list /
+.list / a
+?list / a/b
+.readlink /l
+.df
+?df /
+.as 5 5
+?as 5";
+
 #[test]
 fn kinds_of_lines(rt: HostRuntime) -> Result<(), Fail> {
-    let alloc = rt.alloc();
-    for (text, want) in [
-        ("", "skipped"),
-        ("   ", "skipped"),
-        ("#create /a 644\t\r", "skipped"),
-        (" # x", "syntax"),
-        ("df\r", "syntax"),
-        ("df\t", "syntax"),
-        ("stat /\u{e4}", "syntax"),
-        ("  create   /a  644 ", "call"),
-        ("create /a 0644", "call"),
-        ("create /a 1644", "syntax"),
-        ("create /a 648", "syntax"),
-        ("create a 644", "syntax"),
-        ("create /a", "syntax"),
-        ("!create /a 644", "waits"),
-        ("! create /a 644", "syntax"),
-        ("!!create /a 644", "syntax"),
-        ("Create /a 644", "syntax"),
-        ("mkdir /d 755", "call"),
-        ("link /a /b", "call"),
-        ("link /a b", "syntax"),
-        ("symlink x /l", "call"),
-        ("rename /a /b", "call"),
-        ("remove /a", "call"),
-        ("rmdir /d /d", "syntax"),
-        ("rmdir /d", "call"),
-        ("chmod /a 600", "call"),
-        ("chown /a 4294967295 0", "call"),
-        ("chown /a 4294967296 0", "syntax"),
-        ("write /a 0 0aF9", "call"),
-        ("write /a 0 0aF", "syntax"),
-        ("write /a 0 0x", "syntax"),
-        ("write /a 0", "syntax"),
-        ("trunc /a 18446744073709551615", "call"),
-        ("trunc /a 18446744073709551616", "syntax"),
-        ("trunc /a 00", "syntax"),
-        ("trunc /a +1", "syntax"),
-        ("fsync /a", "waits"),
-        ("!fsync /a", "syntax"),
-        ("read /a 0 4096", "call"),
-        ("read /a 0 4097", "syntax"),
-        ("read /a 0 0", "syntax"),
-        ("stat /a", "call"),
-        ("lstat /a", "call"),
-        ("list /", "call"),
-        ("list / a", "call"),
-        ("list / a/b", "syntax"),
-        ("readlink /l", "call"),
-        ("df", "call"),
-        ("df /", "syntax"),
-        ("as 5 5", "call"),
-        ("as 5", "syntax"),
-    ] {
-        let line = read_line(alloc, 1, CALLER, text.as_bytes())?;
-        assert_eq!(rt; kind_of(&line), want, "{text}");
+    for row in KINDS.as_bytes().split(|b| *b == b'\n') {
+        let [want, text @ ..] = row else {
+            return Err("an empty row".into());
+        };
+        let line = read_line(rt.alloc(), 1, CALLER, text)?;
+        assert_eq!(rt; kind_of(&line), *want, "{}", row.escape_ascii());
     }
+    Ok(())
+}
+
+#[test]
+fn longest_lines(rt: HostRuntime) -> Result<(), Fail> {
+    let alloc = rt.alloc();
     for (front, filler, length, want) in [
-        ("df", b' ', 36_864, "call"),
-        ("df", b' ', 36_865, "syntax"),
-        ("#", b' ', 36_865, "skipped"),
-        ("write /a 0 ", b'0', 11 + 32_768, "call"),
-        ("write /a 0 ", b'0', 11 + 32_770, "syntax"),
-        ("list / ", b'a', 7 + 255, "call"),
-        ("list / ", b'a', 7 + 256, "syntax"),
+        ("df", b' ', 36_864, b'.'),
+        ("df", b' ', 36_865, b'?'),
+        ("#", b' ', 36_865, b'-'),
+        ("write /a 0 ", b'0', 11 + 32_768, b'.'),
+        ("write /a 0 ", b'0', 11 + 32_770, b'?'),
+        ("list / ", b'a', 7 + 255, b'.'),
+        ("list / ", b'a', 7 + 256, b'?'),
     ] {
         let mut text = Vec::from_slice(alloc, front.as_bytes())?;
         text.resize(length, filler)?;
@@ -119,14 +129,21 @@ fn one_line(rt: HostRuntime) -> Result<(), Fail> {
     Ok(())
 }
 
-#[test]
-fn texts_of_replies(rt: HostRuntime) -> Result<(), Fail> {
-    let alloc = rt.alloc();
-    let mut names = NameList::new(alloc);
-    for name in ["a", "b.c"] {
-        names.push(Name::from_slice(alloc, name.as_bytes())?)?;
+// What a reply's text is, with a byte after it that is left as it was.
+fn expect_text(rt: &impl Abort, line: u32, reply: &Reply, want: &str) -> Result<(), Fail> {
+    if !is_short(reply) {
+        return Err("too long".into());
     }
-    let file = StatInfo {
+    let mut out = [b'.'; 8256];
+    let length = reply_text(line, reply, &mut out);
+    assert_eq!(rt; out.get(..length), Some(want.as_bytes()), "{want}");
+    assert_eq!(rt; out.get(length), Some(&b'.'), "{want}");
+    Ok(())
+}
+
+#[test]
+fn texts_of_stats(rt: HostRuntime) -> Result<(), Fail> {
+    let file = Reply::Stat(StatInfo {
         ino: 3,
         mode: 0o100_644,
         links: 1,
@@ -135,8 +152,9 @@ fn texts_of_replies(rt: HostRuntime) -> Result<(), Fail> {
         size: 0,
         mtime: 1000,
         blocks: 0,
-    };
-    let link = StatInfo {
+    });
+    expect_text(&rt, 3, &file, "3 ok 3 file 644 1 0 0 0 1000 0\n")?;
+    let link = Reply::Stat(StatInfo {
         ino: u32::MAX,
         mode: 0o120_777,
         links: u16::MAX,
@@ -145,40 +163,38 @@ fn texts_of_replies(rt: HostRuntime) -> Result<(), Fail> {
         size: u64::MAX,
         mtime: u64::MAX,
         blocks: u32::MAX,
-    };
-    for (line, reply, want) in [
-        (12, Reply::Done, "12 ok\n"),
-        (3, Reply::Stat(file), "3 ok 3 file 644 1 0 0 0 1000 0\n"),
-        (
-            u32::MAX,
-            Reply::Stat(link),
-            "4294967295 ok 4294967295 link 777 65535 4294967295 4294967295 18446744073709551615 18446744073709551615 4294967295\n",
-        ),
-        (
-            5,
-            Reply::Read(Bytes::from_slice(alloc, &[0, 0xff, 0x1a])?),
-            "5 ok 00ff1a\n",
-        ),
-        (5, Reply::Read(Bytes::from_slice(alloc, &[])?), "5 ok -\n"),
-        (7, Reply::Names(names, true), "7 ok 2 more a b.c\n"),
-        (7, Reply::Names(NameList::new(alloc), false), "7 ok 0 end\n"),
-        (
-            1,
-            Reply::Text(Bytes::from_slice(alloc, b"../x")?),
-            "1 ok ../x\n",
-        ),
-        (19, Reply::Df(0, 27), "19 ok 0 27\n"),
-        (2, Reply::Refused(Refusal::Nametoolong), "2 nametoolong\n"),
+    });
+    expect_text(
+        &rt,
+        u32::MAX,
+        &link,
+        "4294967295 ok 4294967295 link 777 65535 4294967295 4294967295 18446744073709551615 18446744073709551615 4294967295\n",
+    )
+}
+
+#[test]
+fn texts_of_replies(rt: HostRuntime) -> Result<(), Fail> {
+    let alloc = rt.alloc();
+    expect_text(&rt, 12, &Reply::Done, "12 ok\n")?;
+    expect_text(&rt, 19, &Reply::Df(0, 27), "19 ok 0 27\n")?;
+    let refused = Reply::Refused(Refusal::Nametoolong);
+    expect_text(&rt, 2, &refused, "2 nametoolong\n")?;
+    for (bytes, want) in [
+        ([0, 0xff, 0x1a].as_slice(), "5 ok 00ff1a\n"),
+        (&[], "5 ok -\n"),
     ] {
-        if !is_short(&reply) {
-            return Err("too long".into());
-        }
-        let mut out = [b'.'; 8256];
-        let length = reply_text(line, &reply, &mut out);
-        assert_eq!(rt; out.get(..length), Some(want.as_bytes()), "{want}");
-        assert_eq!(rt; out.get(length), Some(&b'.'), "{want}");
+        let read = Reply::Read(Bytes::from_slice(alloc, bytes)?);
+        expect_text(&rt, 5, &read, want)?;
     }
-    Ok(())
+    let text = Reply::Text(Bytes::from_slice(alloc, b"../x")?);
+    expect_text(&rt, 1, &text, "1 ok ../x\n")?;
+    let mut names = NameList::new(alloc);
+    names.push(Name::from_slice(alloc, b"a")?)?;
+    names.push(Name::from_slice(alloc, b"b.c")?)?;
+    let more = Reply::Names(names, true);
+    expect_text(&rt, 7, &more, "7 ok 2 more a b.c\n")?;
+    let none = Reply::Names(NameList::new(alloc), false);
+    expect_text(&rt, 7, &none, "7 ok 0 end\n")
 }
 
 #[test]
@@ -241,5 +257,53 @@ fn text_of_a_history(rt: HostRuntime) -> Result<(), Fail> {
     let text = session_text(alloc, 5, &entries, &commits, &rolls)?;
     let want = "answered 1 left 4 commits 2 rolls 1\n";
     assert_eq!(rt; text.as_slice(), want.as_bytes());
+    Ok(())
+}
+
+// Skipped lines are counted and numbered, and a last line needs no line feed.
+#[test]
+fn lines_of_scripts(rt: HostRuntime) -> Result<(), Fail> {
+    for (script, limit, want, count) in [
+        ("", 0, "", 0),
+        ("\n", 1, "", 1),
+        ("df", 1, "1", 1),
+        ("df\n", 1, "1", 1),
+        ("\ndf\n#df\n \nx\n\n", 6, "25", 6),
+        ("df\n\n", 1, "over", 0),
+        ("df\ndf\ndf", 2, "over", 0),
+    ] {
+        let mut numbers = String::new(rt.alloc());
+        let counted = match lines_of(rt.alloc(), script.as_bytes(), limit) {
+            Ok(read) => {
+                for line in &read.lines {
+                    write!(numbers, "{}", line.number)?;
+                }
+                read.count
+            },
+            Err(LinesError::TooMany) => {
+                numbers.push_str("over")?;
+                0
+            },
+            Err(LinesError::Mem) => return Err("no memory".into()),
+        };
+        assert_eq!(rt; numbers.as_str(), want, "{script}");
+        assert_eq!(rt; counted, count, "{script}");
+    }
+    Ok(())
+}
+
+// A script of as many lines as all scripts of a session may have, and one of one more.
+#[test]
+fn longest_script(rt: HostRuntime) -> Result<(), Fail> {
+    let alloc = rt.alloc();
+    let mut script = Vec::new(alloc);
+    for _ in 0..100_000 {
+        script.extend_from_slice(b"df\n")?;
+    }
+    let read = lines_of(alloc, &script, 100_000).map_err(|_| "too long")?;
+    assert_eq!(rt; (read.lines.len(), read.count), (100_000, 100_000));
+    script.push(b'x')?;
+    let over = lines_of(alloc, &script, 100_000);
+    assert!(rt; matches!(over, Err(LinesError::TooMany)));
     Ok(())
 }
