@@ -1,11 +1,11 @@
 -- The bits of groups and their counts, by the records that a check keeps.
-use Rattle.std.proofs.Common.{◌≡◌, ◌<◌, ◌≤◌, inl, inr, ℕ, ◌+◌, ◌-◌, ◌*◌, ◌/◌, ◌%◌, Bool, true, false, not, ◌&&◌, ◌||◌, cond, List, [], ◌∷◌, length, map, Option, Some, None, refl, sym, ap, ◌∙◌, arith}
+use Rattle.std.proofs.Common.{◌≡◌, ◌<◌, ◌≤◌, inl, inr, ℕ, ◌+◌, ◌-◌, ◌*◌, ◌/◌, ◌%◌, zero, suc, Bool, true, false, not, ◌&&◌, ◌||◌, cond, List, [], ◌∷◌, length, map, Option, Some, None, IfSome, refl, sym, ap, subst, ◌∙◌, arith}
 use Rattle.std.specs.Prelude.{slice_get, option_map, is_some, sum_by}
 use Rattle.std.specs.List.{count_by, range_with_len}
 use Rattle.std.specs.Option.{option_flatten, option_map_or}
 use Rattle.std.proofs.Math.Bool.{beq}
-use Rattle.std.proofs.Math.Nat.{div-lt_iff_lt-mul}
-use Rattle.std.proofs.lemmas.Bool.{cases_Bool, cases_lt, le-leb, true≢false}
+use Rattle.std.proofs.Math.Nat.{div-lt_iff_lt-mul, div-add-mod', mod-lt}
+use Rattle.std.proofs.lemmas.Bool.{cases_Bool, cases_lt, le-leb, ltb-true, true≢false}
 use Rattle.std.proofs.lemmas.List.Sums.{sum_by-cons}
 use Rattle.std.proofs.lemmas.Option.{slice_get_cases}
 use Rattle.lufs_base.specs.Layout.{IsGeometry, group_start, blocks_of}
@@ -14,14 +14,14 @@ use Rattle.volume_model.specs.declared.finding.Counts.{Counts}
 use Rattle.volume_model.specs.declared.inode.Dinode.{Dinode}
 use Rattle.volume_model.specs.Format.{Blocks, GroupRecord, inodes_of, body_blocks_of, bit_at, clear_bits, is_body}
 use Rattle.volume_model.specs.Sound.{Reading, UsedInode, reading_of, inode_at, state_of, state_at, used_of, used_at, used_inode, is_claimed, claims_of, inode_bit, block_bit, differ, has_bad_inode_bit, has_bad_block_bit, has_bad_count, has_right_counts, counts_of}
-use Rattle.volume_laws.proofs.BodyBlocks.{none_before}
+use Rattle.volume_laws.proofs.BodyBlocks.{none_before, body_at}
 use Rattle.volume_laws.proofs.Counting.{one_if, sum_of_range, sum_of_map}
 use Rattle.volume_laws.proofs.FreeBits.{clear_counted}
 use Rattle.cyl_groups.specs.declared.group.Group.{Group}
 use Rattle.cyl_groups.specs.Group.{record_of}
 use Rattle.fsck_core.specs.declared.claims.Claims.{Claims}
 use Rattle.fsck_core.specs.declared.inodes.Brief.{Brief}
-use Rattle.fsck_core.specs.Bits.{block_bit_among, has_other_bit}
+use Rattle.fsck_core.specs.Bits.{block_bit_among, has_other_bit, BlocksAgree}
 use Rattle.fsck_core.specs.Claimed.{HasClaimed}
 use Rattle.fsck_core.specs.Inodes.{brief_of, AreBriefs}
 use Rattle.fsck_core.specs.Tables.{AreGroups, AreInodes}
@@ -122,6 +122,60 @@ bad_block_bit g blocks groups claims b ok so size has inside =
           ap (λ (t : Bool). t && differ (block_bit g r b) (is_claimed r b || false)) no_body
           ∙ sym (ap (λ (t : Bool). t && differ (block_bit_among g groups b) (bit_at claims.bits.items b)) no_body)
     ]
+
+differ_none : (p q : Bool) → p ≡ q → differ p q ≡ false
+differ_none true q same = ap (differ true) (sym same)
+differ_none false q same = ap (differ false) (sym same)
+
+-- where the bits of a group agree, those of its body blocks say whether they are claimed
+agreed_at : (g : Geometry) (groups : List Group) (claims : Claims) (n k b : ℕ) → IfSome (slice_get groups n) (λ x. BlocksAgree g n x claims g.bpg) → n < length groups
+    → g.ipg / 32 < k → k < g.bpg → b ≡ group_start g n + k
+    → option_map_or (λ x. bit_at x.block_bits k) (slice_get groups n) false ≡ bit_at claims.bits.items b
+agreed_at g groups claims n k b agree within past below place = of_case (slice_get groups n) agree (λ none. slice_get_there groups n within none)
+  where
+    of_case : (o : Option Group) → IfSome o (λ x. BlocksAgree g n x claims g.bpg) → (o ≡ None → ⊥) → option_map_or (λ x. bit_at x.block_bits k) o false ≡ bit_at claims.bits.items b
+    of_case None agree there = absurd (there refl)
+    of_case (Some x) agree there = agree k past below ∙ ap (λ (c : ℕ). bit_at claims.bits.items c) (sym place)
+
+    slice_get_there : (xs : List Group) (i : ℕ) → i < length xs → slice_get xs i ≡ None → ⊥
+    slice_get_there [] i below none = omega (arith, below)
+    slice_get_there (x ∷ xs) zero below none = cc
+    slice_get_there (x ∷ xs) (suc i) below none = slice_get_there xs i (omega (arith, below)) none
+
+start_of : (g : Geometry) (n : ℕ) → group_start g n ≡ group_start g 0 + n * g.bpg
+start_of g n = omega arith
+
+placed : (start first product k at b : ℕ) → start ≡ first + product → at ≡ b - first → first ≤ b → product + k ≡ at → b ≡ start + k
+placed start first product k at b is away low sum = omega (arith, is, away, low, sum)
+
+-- where those of each group agree, no block has another bit
+pub agreed : (g : Geometry) (groups : List Group) (claims : Claims) (b : ℕ) → IsGeometry g → length groups ≡ g.groups
+    → ((n : ℕ) → n < g.groups → IfSome (slice_get groups n) (λ x. BlocksAgree g n x claims g.bpg)) → b < blocks_of g → has_other_bit g groups claims b ≡ false
+unfolding has_other_bit
+agreed g groups claims b ok size agree inside = by_test (is_body g b) refl
+  where
+    by_test : (body : Bool) → is_body g b ≡ body → (is_body g b && differ (block_bit_among g groups b) (bit_at claims.bits.items b)) ≡ false
+    by_test false body = ap (λ (t : Bool). t && differ (block_bit_among g groups b) (bit_at claims.bits.items b)) body
+    by_test true body =
+        ap (λ (t : Bool). t && differ (block_bit_among g groups b) (bit_at claims.bits.items b)) body
+        ∙ differ_none (block_bit_among g groups b) (bit_at claims.bits.items b) (in_group (b - group_start g 0) refl (from_first_group g b ok body))
+      where
+        in_group : (at : ℕ) → at ≡ b - group_start g 0 → group_start g 0 ≤ b
+            → option_map_or (λ x. bit_at x.block_bits (at % g.bpg)) (slice_get groups (at / g.bpg)) false ≡ bit_at claims.bits.items b
+        in_group at away low = with_place (at / g.bpg) (at % g.bpg) within (mod-lt at some) (placed (group_start g (at / g.bpg)) (group_start g 0) (at / g.bpg * g.bpg) (at % g.bpg) at b
+            (start_of g (at / g.bpg)) away low (div-add-mod' at g.bpg))
+          where
+            some : 0 < g.bpg
+            some = omega (arith, ok.bpg_low)
+
+            within : at / g.bpg < g.groups
+            within = subst (λ (k : ℕ). k / g.bpg < g.groups) (sym away) (group_of_block g b ok low inside)
+
+            with_place : (n k : ℕ) → n < g.groups → k < g.bpg → b ≡ group_start g n + k
+                → option_map_or (λ x. bit_at x.block_bits k) (slice_get groups n) false ≡ bit_at claims.bits.items b
+            with_place n k within below place =
+                agreed_at g groups claims n k b (agree n within) (omega (arith, size, within))
+                (ltb-true (g.ipg / 32) k (sym (body_at g ok n k within below) ∙ ap (is_body g) (sym place) ∙ body)) below place
 
 -- the test of a group's counts
 pub bad_count_in : (g : Geometry) (blocks : Blocks) (groups : List Group) (n : ℕ) (x : Group) → AreGroups g blocks groups → length groups ≡ g.groups

@@ -1,5 +1,5 @@
 -- What is read of the blocks that a store tells.
-use Rattle.std.proofs.Common.{◌≡◌, ◌<◌, ℕ, zero, suc, ◌+◌, ◌-◌, ◌*◌, ◌≤◌, ◌/◌, ◌%◌, eqb, Bool, true, false, if◌then◌else◌, List, [], ◌∷◌, ◌++◌, map, length, take, drop, replicate, slice_index, Option, Some, None, IfSome, option_map, refl, sym, ap, subst, ◌∙◌, arith}
+use Rattle.std.proofs.Common.{◌≡◌, ◌<◌, ℕ, zero, suc, ◌+◌, ◌-◌, ◌*◌, ◌≤◌, ◌/◌, ◌%◌, eqb, Bool, true, false, if◌then◌else◌, List, ◌∷◌, ◌++◌, map, length, take, drop, replicate, slice_index, Option, Some, None, IfSome, option_map, refl, sym, ap, subst, ◌∙◌, arith}
 use Rattle.std.proofs.lemmas.Bool.{ne_eqb}
 use Rattle.std.proofs.Math.Seq.{take-append_seam}
 use Rattle.std.proofs.lemmas.List.{append-nil, append_assoc, drop-drop, drop-replicate, length-append, length-map}
@@ -13,11 +13,10 @@ use Rattle.lufs_base.specs.Layout.{IsGeometry, group_start, inode_address, block
 use Rattle.lufs_base.specs.declared.geometry.Geometry.{Geometry}
 use Rattle.volume_model.specs.declared.inode.Dinode.{Dinode}
 use Rattle.volume_model.specs.Format.{Image, block, group_of, is_dinode, named_dinode, dinode_of, inodes_of, pointers_of}
-use Rattle.volume_model.specs.Sound.{group_at, inode_at, pointers_at, numbers_of}
+use Rattle.volume_model.specs.Sound.{group_at, pointers_at, numbers_of}
 use Rattle.cyl_groups.specs.declared.group.Group.{Group}
 use Rattle.cyl_groups.specs.Group.{record_of}
 use Rattle.fsck_core.specs.Claimed.{with_zeros}
-use Rattle.fsck_core.specs.Tables.{AreOfBlock}
 use Rattle.fsck_core.proofs.DirectoryChunks.{range_parts}
 
 -- the record that was read of group n
@@ -35,20 +34,6 @@ pub free_record : (version : ℕ) (bytes : List ℕ) → are_zeros bytes ≡ tru
 unfolding dinode_of
 free_record version bytes zeros =
     sym (ap (λ (b : Bool). if b then Some None else (if is_dinode version bytes then Some (Some (named_dinode bytes)) else None)) zeros)
-
--- the record that was read of inode i, from the block that holds it
-pub inode_told : (g read : Geometry) (content : Option Image) (i place : ℕ) (size : ℕ) (bytes : List ℕ) (number : Option ℕ) (found read_as : Option (Option Dinode)) → read ≡ g
-    → place ≡ inode_address read i → number ≡ Some (place / 4096) → AreOfBlock content number bytes → found ≡ read_as
-    → size ≡ 128 → read_as ≡ dinode_of read.version (take size (drop (place % 4096) bytes))
-    → IfSome content (λ image. found ≡ inode_at g (block image) i)
-inode_told g read None i place size bytes number found read_as geometry at held told same long value = tt
-inode_told g read (Some image) i place size bytes number found read_as geometry at held told same long value =
-    let shown : bytes ≡ block image (place / 4096) = rw held at told in
-    same ∙ value
-    ∙ ap (λ (n : ℕ). dinode_of read.version (take n (drop (place % 4096) bytes))) long
-    ∙ ap (λ (xs : List ℕ). dinode_of read.version (take 128 (drop (place % 4096) xs))) shown
-    ∙ ap (λ (p : ℕ). dinode_of read.version (take 128 (drop (p % 4096) (block image (p / 4096))))) at
-    ∙ ap (λ (h : Geometry). inode_at h (block image) i) geometry
 
 -- the block of an inode's record is one of the volume
 pub inode_block_inside : (g read : Geometry) (i place b : ℕ) → read ≡ g → IsGeometry g → i < inodes_of g → place ≡ inode_address read i → b ≡ place / 4096

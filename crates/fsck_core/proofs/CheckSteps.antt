@@ -1,9 +1,8 @@
 -- What a check finds by the rules that are left, once the records and the inodes were looked at.
-use Rattle.std.proofs.Common.{◌≡◌, ◌<◌, ◌≤◌, inl, inr, ℕ, Bool, true, false, not, List, [], ◌∷◌, ◌++◌, length, map, Option, Some, None, Ok, Err, refl, sym, ap, ◌∙◌, subst, arith}
+use Rattle.std.proofs.Common.{◌≡◌, ◌<◌, inl, inr, ℕ, Bool, true, false, not, List, [], ◌∷◌, ◌++◌, length, map, Option, Some, None, Ok, Err, refl, sym, ap, ◌∙◌, subst, arith}
 use Rattle.std.specs.Prelude.{is_some, cond, ◌==◌, slice_get, option_map, find, Result, IsErrAnd, if◌then◌else◌}
 use Rattle.std.specs.List.{range_with_len, filter, list_any}
-use Rattle.std.specs.Option.{option_flatten, option_and_then, option_map_or}
-use Rattle.std.proofs.lemmas.Option.{slice_get_within, slice_get_cases}
+use Rattle.std.specs.Option.{option_flatten, option_map_or}
 use Rattle.std.proofs.lemmas.Bool.{cases_lt, or_parts, eqb-true, not-false, true≢false}
 use Rattle.std.proofs.lemmas.List.Elements.{All-nil, All-cons, All-append}
 use Rattle.lufs_base.specs.Layout.{blocks_of}
@@ -13,7 +12,7 @@ use Rattle.volume_model.specs.declared.finding.Kind.{Kind}
 use Rattle.volume_model.specs.declared.finding.Kind.TheVariants.{Group as of_groups, Inode as of_inodes, Fields, Root, Twice, Chunk, Name, Parent, Links}
 use Rattle.volume_model.specs.declared.inode.Dinode.{Dinode}
 use Rattle.volume_model.specs.Format.{Blocks, inodes_of, is_directory}
-use Rattle.volume_model.specs.Sound.{Reading, Names, UsedInode, reading_of, inodes_in, used_at, used_of, used_inode, slots_of, names_in_reading, slots_at, parent_at, is_used_in, names_unused, is_directory_in, claims_of, has_bad_fields, has_bad_chunk, has_bad_parent, has_bad_links, all_kinds, first_of_kind, finding_of}
+use Rattle.volume_model.specs.Sound.{Reading, Names, UsedInode, reading_of, inodes_in, used_at, used_inode, slots_of, names_in_reading, slots_at, parent_at, is_used_in, names_unused, is_directory_in, claims_of, has_bad_fields, has_bad_chunk, has_bad_parent, has_bad_links, all_kinds, first_of_kind, finding_of}
 use Rattle.volume_laws.proofs.ClaimFacts.{length-inodes}
 use Rattle.cyl_groups.specs.declared.group.Group.{Group}
 use Rattle.fsck_core.specs.declared.inodes.Brief.{Brief}

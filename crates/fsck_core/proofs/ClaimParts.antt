@@ -1,10 +1,10 @@
 -- What is claimed in two parts, those that are settled first, is what is claimed in one.
-use Rattle.std.proofs.Common.{◌≡◌, ◌<◌, ◌≤◌, ℕ, ◌+◌, nat_le, Bool, true, false, ◌==◌, cond, if◌then◌else◌, List, [], ◌∷◌, ◌++◌, length, map, inl, inr, refl, sym, ap, ◌∙◌, arith, length-append}
+use Rattle.std.proofs.Common.{◌≡◌, ℕ, ◌+◌, nat_le, Bool, true, false, ◌==◌, cond, if◌then◌else◌, List, [], ◌∷◌, ◌++◌, length, map, inl, inr, refl, sym, ap, ◌∙◌, arith, length-append}
 use Rattle.std.specs.List.{flat_map, list_any, range_with_len}
 use Rattle.std.proofs.lemmas.Bool.{cases_Bool}
 use Rattle.std.proofs.lemmas.List.{map-append}
 use Rattle.std.proofs.lemmas.List.Sums.{sum_by-append}
-use Rattle.volume_model.specs.Sound.{Reading, Claim, claims_at}
+use Rattle.volume_model.specs.Sound.{Reading, claims_at}
 use Rattle.lufs_base.specs.declared.geometry.Geometry.{Geometry}
 use Rattle.fsck_core.specs.declared.claims.Claims.{Claims}
 use Rattle.fsck_core.specs.Claimed.{times, HasClaimed}

@@ -1,8 +1,9 @@
 -- Where the steps up lead: twice as far with each pass, and to the root or not.
-use Rattle.std.proofs.Common.{◌≡◌, ◌<◌, ℕ, zero, suc, ◌+◌, List, length, map, slice_index, Result, Ok, Err, IfOk, Vec, Global, refl, sym, ap, subst, ◌∙◌, arith}
-use Rattle.std.proofs.lemmas.List.{length-map, get_or-map}
-use Rattle.std.proofs.lemmas.List.FromFn.{length-range_with_len, get_or-range_with_len}
-use Rattle.std.specs.List.{range_with_len}
+use Rattle.std.proofs.Common.{◌≡◌, ◌<◌, ℕ, zero, suc, ◌+◌, ◌==◌, true, List, [], ◌∷◌, length, map, slice_index, Result, Ok, Err, IfOk, Vec, Global, refl, sym, ap, subst, ◌∙◌, arith}
+use Rattle.std.proofs.lemmas.List.{length-map, get_or-map, ext_get_or}
+use Rattle.std.proofs.lemmas.List.FromFn.{length-range_with_len, get_or-range_with_len, length-map-range_with_len, get_or-map-range_with_len}
+use Rattle.std.proofs.lemmas.Bool.{and_parts, eqb-true}
+use Rattle.std.specs.List.{list_all, range_with_len}
 use Rattle.fsck_core.specs.StepsUp.{stepped, IsClosed, LeadsUp}
 
 -- After some passes: so many steps are left, each is one of `step`, and they begin where `far` says.
@@ -98,3 +99,17 @@ climb_ended above steps left step far none climbs = record {
   size = climbs.far_size;
   each = λ closed i less. ap (λ (n : ℕ). stepped step n (slice_index far i)) (sym none) ∙ climbs.each closed i less;
 }
+
+-- the numbers that a list has at its places
+pub at_each_place : (xs : List ℕ) → map (slice_index xs) (range_with_len 0 (length xs)) ≡ xs
+at_each_place xs =
+    let n = length xs in
+    ext_get_or 0 (map (slice_index xs) (range_with_len 0 n)) xs (length-map-range_with_len (slice_index xs) 0 n) (λ i below.
+    get_or-map-range_with_len (slice_index xs) 0 n i i 0 (omega (arith, below, length-map-range_with_len (slice_index xs) 0 n)) (omega arith))
+
+-- numbers each of which stays
+pub each_stays : (f : ℕ → ℕ) (xs : List ℕ) → list_all (λ i. f i == i) xs ≡ true → map f xs ≡ xs
+each_stays f [] stays = refl
+each_stays f (x ∷ xs) stays =
+    let both = and_parts (f x == x) (list_all (λ i. f i == i) xs) stays in
+    ap (λ (y : ℕ). y ∷ map f xs) (eqb-true (f x) x both.0) ∙ ap (λ (l : List ℕ). x ∷ l) (each_stays f xs both.1)

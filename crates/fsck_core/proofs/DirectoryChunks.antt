@@ -1,5 +1,5 @@
 -- The chunks of a directory, block by block.
-use Rattle.std.proofs.Common.{◌≡◌, ℕ, zero, suc, ◌+◌, ◌-◌, ◌*◌, ◌/◌, ◌%◌, ◌<◌, ◌≤◌, List, [], ◌∷◌, ◌++◌, take, drop, map, min, Bool, true, false, ◌&&◌, Option, Some, None, refl, ap, sym, subst, ◌∙◌, arith, append_assoc, append-nil, length, length-drop, inl, inr, slice_index, if◌then◌else◌, ◌==◌, ne_eqb, unwrap_or, IfSome}
+use Rattle.std.proofs.Common.{◌≡◌, ℕ, zero, suc, ◌+◌, ◌-◌, ◌*◌, ◌/◌, ◌%◌, ◌<◌, ◌≤◌, List, [], ◌∷◌, ◌++◌, take, drop, map, Bool, true, false, ◌&&◌, Option, Some, None, refl, ap, sym, subst, ◌∙◌, arith, append_assoc, append-nil, length, length-drop, inl, inr, slice_index, if◌then◌else◌, ◌==◌, ne_eqb, unwrap_or, IfSome}
 use Rattle.std.specs.List.{list_all, range_with_len}
 use Rattle.std.specs.Option.{is_some}
 use Rattle.std.proofs.lemmas.List.{drop-drop, drop-take, take-take, take-append-le, drop-append-le, take_all}
@@ -11,7 +11,7 @@ use Rattle.std.proofs.lemmas.Grind.{flat_map-append}
 use Rattle.volume_model.specs.declared.directory.Slot.{Slot}
 use Rattle.volume_model.specs.Format.{Blocks, Image, block, chunk_of}
 use Rattle.volume_model.specs.Sound.{chunk_at, block_numbered}
-use Rattle.fsck_core.specs.Slots.{chunks_in, slots_in_chunks, AreSlots}
+use Rattle.fsck_core.specs.Slots.{chunks_in, slots_in_chunks}
 
 -- these are chunks, and these their slots
 pub record AreChunks (chunks : List (Option (List Slot))) (slots : List Slot) : Type 0 where

@@ -1,5 +1,5 @@
 -- What is kept of the inodes, with one more.
-use Rattle.std.proofs.Common.{◌≡◌, ◌<◌, ◌≤◌, ℕ, zero, suc, ◌+◌, ◌==◌, Bool, true, false, not, ◌&&◌, if◌then◌else◌, List, [], ◌∷◌, ◌++◌, length, map, slice_index, Option, Some, None, inl, inr, refl, sym, ap, subst, ◌∙◌, arith, append-nil, append_assoc}
+use Rattle.std.proofs.Common.{◌≡◌, ◌<◌, ◌≤◌, ℕ, ◌+◌, Bool, true, false, not, if◌then◌else◌, List, [], ◌∷◌, ◌++◌, length, slice_index, Option, Some, None, inl, inr, refl, sym, ap, subst, ◌∙◌, arith, append-nil}
 use Rattle.std.specs.Prelude.{option_map, slice_get}
 use Rattle.std.proofs.lemmas.Option.{slice_get-map, slice_get_cases}
 use Rattle.std.specs.List.{flat_map, range_with_len}
@@ -12,13 +12,12 @@ use Rattle.lufs_base.specs.Layout.{blocks_of}
 use Rattle.lufs_base.specs.declared.geometry.Geometry.{Geometry}
 use Rattle.volume_model.specs.declared.inode.Dinode.{Dinode}
 use Rattle.volume_model.specs.Format.{Blocks, inodes_of, is_directory}
-use Rattle.volume_model.specs.Sound.{Reading, UsedInode, reading_of, inode_at, used_at, used_inode, numbers_of, chunks_at, has_right_fields}
+use Rattle.volume_model.specs.Sound.{Reading, UsedInode, reading_of, inode_at, used_inode, chunks_at, has_right_fields}
 use Rattle.fsck_core.specs.declared.claims.Claims.{Claims}
 use Rattle.fsck_core.specs.declared.inodes.Brief.{Brief}
 use Rattle.fsck_core.specs.declared.inodes.Unsettled.{Unsettled}
-use Rattle.fsck_core.specs.Claimed.{used_with, blocks_claimed, with_zeros, HasClaimed}
+use Rattle.fsck_core.specs.Claimed.{used_with, blocks_claimed, HasClaimed}
 use Rattle.fsck_core.specs.Inodes.{brief_of, AreBriefs, is_settled, unsettled_of, unsettled_from, settled_in, blocks_at, settled_blocks, other_blocks, AreKept}
-use Rattle.fsck_core.specs.Tables.{AreInodes}
 use Rattle.fsck_core.proofs.ClaimBridges.{blocks-claims_at}
 use Rattle.fsck_core.proofs.RecordSteps.{inode_in, used_by_record, more_inodes}
 use Rattle.fsck_core.proofs.WithZeros.{claimed-with_zeros, fields-with_zeros, fields_anywhere, direct_numbers}

@@ -11,6 +11,7 @@ pub mod FieldRules
 pub mod Findings
 pub mod FirstFound
 pub mod FirstTwice
+pub mod InodeRows
 pub mod KeptInodes
 pub mod LookSteps
 pub mod NamedLinks

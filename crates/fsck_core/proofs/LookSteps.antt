@@ -5,7 +5,6 @@ use Rattle.volume_model.specs.declared.finding.Counts.{Counts}
 use Rattle.volume_model.specs.declared.finding.Kind.{Kind}
 use Rattle.volume_model.specs.declared.finding.Kind.TheVariants.{Group as of_groups}
 use Rattle.volume_model.specs.declared.finding.Verdict.TheVariants.{Clean, Finding}
-use Rattle.volume_model.specs.declared.inode.Dinode.{Dinode}
 use Rattle.volume_model.specs.Format.{Image, Blocks, block}
 use Rattle.volume_model.specs.Sound.{reading_of, first_of_kind, finding_of, counts_of, verdict_of, verdict_on}
 use Rattle.cyl_groups.specs.declared.group.Group.{Group}

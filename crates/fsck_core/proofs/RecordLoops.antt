@@ -1,8 +1,6 @@
 -- What a check knows of a store while it reads one record after the other.
 use Rattle.std.proofs.Common.{◌≡◌, ◌<◌, ◌≤◌, ◌+◌, inl, inr, ℕ, Bool, true, if◌then◌else◌, List, [], ◌∷◌, ◌++◌, length, Option, Some, None, IfSome, option_map, refl, sym, ap, subst, ◌∙◌, arith}
-use Rattle.std.specs.Prelude.{slice_get}
 use Rattle.std.proofs.lemmas.Bool.{cases_lt, lt-ltb, le-ltb}
-use Rattle.std.proofs.lemmas.Option.{slice_get_within}
 use Rattle.volume_model.specs.declared.inode.Dinode.{Dinode}
 use Rattle.volume_model.specs.declared.finding.Kind.TheVariants.{Group as of_groups, Inode as of_inodes}
 use Rattle.volume_model.specs.Format.{Image, Blocks, block, inodes_of}
@@ -12,7 +10,7 @@ use Rattle.cyl_groups.specs.declared.group.Group.{Group}
 use Rattle.cyl_groups.specs.Group.{record_of}
 use Rattle.fsck_core.specs.declared.inodes.Inodes.{Inodes}
 use Rattle.fsck_core.specs.Inodes.{AreKept}
-use Rattle.fsck_core.specs.Tables.{AreGroups, AreOfBlock, allowed}
+use Rattle.fsck_core.specs.Tables.{AreGroups, AreOfRow, allowed}
 use Rattle.fsck_core.proofs.KeptInodes.{briefs_size}
 use Rattle.fsck_core.proofs.RecordSteps.{more_groups, bad_group_found, bad_inode_found}
 
@@ -49,9 +47,9 @@ pub inodes_begun : (g : Geometry) (content : Option Image) (k : Inodes) → ((bl
 inodes_begun g None k are = tt
 inodes_begun g (Some image) k are = are (block image)
 
-pub nothing_held : (content : Option Image) (number : Option ℕ) (bytes : List ℕ) → number ≡ None → AreOfBlock content number bytes
-nothing_held None number bytes none = tt
-nothing_held (Some image) number bytes none = subst (λ (n : Option ℕ). IfSome n (λ b. bytes ≡ block image b)) (sym none) tt
+pub nothing_held : (g : Geometry) (content : Option Image) (row : Option ℕ) (bytes : List ℕ) → row ≡ None → AreOfRow g content row bytes
+nothing_held g None row bytes none = tt
+nothing_held g (Some image) row bytes none = subst (λ (n : Option ℕ). AreOfRow g (Some image) n bytes) (sym none) tt
 
 allowed_is : (i : ℕ) (found : Option (Option Dinode)) (d : Option Dinode) → allowed i found ≡ Some d → (found ≡ Some d) × ((u : Dinode) → i < 2 → d ≡ Some u → ⊥)
 allowed_is i None d may = cc

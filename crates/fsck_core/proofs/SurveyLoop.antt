@@ -1,5 +1,5 @@
 -- The loop over the inodes that aren't settled, of the blocks that a store tells.
-use Rattle.std.proofs.Common.{◌≡◌, ◌<◌, ◌≤◌, ℕ, ◌+◌, List, [], ◌∷◌, length, drop, get_or, Option, Some, None, Result, Ok, Err, IfSome, sym, subst, arith}
+use Rattle.std.proofs.Common.{◌≡◌, ◌<◌, ◌≤◌, ℕ, ◌+◌, List, [], length, drop, get_or, Option, None, Result, Ok, Err, IfSome, sym, subst, arith}
 use Rattle.std.specs.Prelude.{IsErrAnd}
 use Rattle.std.proofs.lemmas.List.{drop_more, drop_all}
 use Rattle.lufs_base.specs.declared.geometry.Geometry.{Geometry}

@@ -2,20 +2,19 @@
 use Rattle.std.proofs.Common.{◌≡◌, ◌<◌, ◌≤◌, ℕ, ◌+◌, ◌*◌, ◌/◌, zero, suc, ◌==◌, nat_le, Bool, true, false, not, cond, ◌&&◌, ◌||◌, if◌then◌else◌, List, [], ◌∷◌, ◌++◌, map, take, drop, length, slice_index, Option, Some, None, is_none, IfSome, refl, sym, ap, subst, ◌∙◌, inl, inr, arith}
 use Rattle.std.specs.Prelude.{slice_get}
 use Rattle.std.specs.List.{find, list_all, range_with_len}
-use Rattle.std.specs.Option.{option_map, option_map_or, option_flatten, option_and_then, is_some, unwrap_or}
+use Rattle.std.specs.Option.{option_map, option_map_or, option_flatten, is_some, unwrap_or}
 use Rattle.std.proofs.Math.Nat.{mul-le-mul_left}
-use Rattle.std.proofs.lemmas.Bool.{cases_Bool, cases_lt, or_left, eq-eqb, leb-false, lt-leb, true≢false, false_from_ne_true}
+use Rattle.std.proofs.lemmas.Bool.{cases_Bool, cases_lt, eq-eqb, leb-false, lt-leb, true≢false, false_from_ne_true}
 use Rattle.std.proofs.lemmas.List.{append-nil, append_assoc}
 use Rattle.std.proofs.lemmas.List.Elements.{All-nil, All-cons}
 use Rattle.std.proofs.lemmas.List.Sums.{sum_by-append}
-use Rattle.std.proofs.lemmas.Option.{slice_get_within, slice_get_cases, slice_get_past}
 use Rattle.lufs_base.specs.Layout.{IsGeometry, blocks_of}
 use Rattle.lufs_base.specs.declared.geometry.Geometry.{Geometry}
 use Rattle.volume_model.specs.declared.directory.Slot.{Slot}
 use Rattle.volume_model.specs.declared.inode.Dinode.{Dinode}
 use Rattle.volume_model.specs.declared.finding.Kind.TheVariants.{Group as of_groups, Inode as of_inodes, Fields as of_fields}
 use Rattle.volume_model.specs.Format.{Image, Blocks, block, inodes_of, is_directory, is_body}
-use Rattle.volume_model.specs.Sound.{Reading, UsedInode, reading_of, inode_at, used_at, used_inode, numbers_of, chunks_at, chunk_at, claims_at, slots_of, names_in_reading, is_used_in, has_bad_slots, has_bad_bytes, has_right_fields, has_bad_fields, first_of_kind, finding_of}
+use Rattle.volume_model.specs.Sound.{Reading, UsedInode, reading_of, inode_at, used_at, used_inode, numbers_of, chunks_at, chunk_at, slots_of, names_in_reading, is_used_in, has_bad_bytes, has_right_fields, has_bad_fields, first_of_kind, finding_of}
 use Rattle.volume_laws.proofs.ClaimFacts.{length-inodes}
 use Rattle.volume_laws.proofs.TreeClaims.{direct_size}
 use Rattle.fsck_core.specs.declared.claims.Claims.{Claims}
@@ -24,9 +23,8 @@ use Rattle.fsck_core.specs.declared.inodes.Unsettled.{Unsettled}
 use Rattle.fsck_core.specs.declared.survey.Survey.{Survey}
 use Rattle.fsck_core.specs.Claimed.{used_with, blocks_claimed, times, with_zeros, HasClaimed}
 use Rattle.fsck_core.specs.Inodes.{brief_of, is_settled, unsettled_of, unsettled_from, blocks_at, settled_blocks, other_blocks}
-use Rattle.fsck_core.specs.Slots.{is_used_among, chunks_in, slots_in_chunks, AreSlots}
-use Rattle.fsck_core.specs.NameTables.{HasSizes}
-use Rattle.fsck_core.specs.Survey.{HasSeenNames, IsSurvey, Knows, IsHere, AreSlotsOf, AreChunksOf}
+use Rattle.fsck_core.specs.Slots.{is_used_among, chunks_in, slots_in_chunks}
+use Rattle.fsck_core.specs.Survey.{HasSeenNames, IsSurvey, Knows, IsHere, AreChunksOf}
 use Rattle.fsck_core.proofs.ClaimBridges.{blocks-claims_at, no_blocks-claims_at}
 use Rattle.fsck_core.proofs.DirectoryChunks.{chunks_of_blocks}
 use Rattle.fsck_core.proofs.FieldRules.{bodies_of_fields}

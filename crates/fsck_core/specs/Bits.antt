@@ -1,5 +1,5 @@
 -- The bits of the groups that a check keeps.
-use Rattle.std.specs.Prelude.{ℕ, ◌-◌, ◌/◌, ◌%◌, Bool, false, ◌&&◌, List, slice_get}
+use Rattle.std.specs.Prelude.{◌≡◌, ◌<◌, ℕ, ◌+◌, ◌-◌, ◌/◌, ◌%◌, Bool, false, ◌&&◌, List, slice_get}
 use Rattle.std.specs.Option.{option_map_or}
 use Rattle.lufs_base.specs.Layout.{group_start}
 use Rattle.lufs_base.specs.declared.geometry.Geometry.{Geometry}
@@ -16,3 +16,8 @@ block_bit_among g groups b =
 -- b is a body block, and its bit among these groups doesn't say whether it is claimed
 unfoldable pub has_other_bit : Geometry → List Group → Claims → ℕ → Bool
 has_other_bit g groups claims b = is_body g b && differ (block_bit_among g groups b) (bit_at claims.bits.items b)
+
+-- Of the first so many blocks of group n the bit of each that is a body block says whether it is claimed.
+abbrev pub BlocksAgree : Geometry → ℕ → Group → Claims → (count : ℕ) → Type 0
+BlocksAgree g n x claims count =
+    (k : ℕ) → g.ipg / 32 < k → k < count → bit_at x.block_bits k ≡ bit_at claims.bits.items (group_start g n + k)

@@ -1,5 +1,6 @@
 -- The steps up in the tree of directories, as a list of the inode above each.
-use Rattle.std.specs.Prelude.{◌≡◌, ◌<◌, ℕ, zero, suc, ◌==◌, Bool, false, not, ◌&&◌, List, length, slice_index, slice_index_or, Option, None}
+use Rattle.std.specs.Prelude.{◌≡◌, ◌<◌, ℕ, zero, suc, ◌==◌, Bool, false, not, ◌&&◌, List, length, slice_index, slice_index_or, Option, None, Some}
+use Rattle.std.specs.List.{range_with_len}
 use Rattle.std.specs.Option.{option_map_or}
 use Rattle.volume_model.specs.Format.{is_directory}
 use Rattle.fsck_core.specs.declared.inodes.Brief.{Brief}
@@ -32,6 +33,11 @@ has_other_links inode links = option_map_or (λ d. not (d.links == links)) inode
 abbrev pub stepped : (above : List ℕ) → (steps i : ℕ) → ℕ
 stepped above zero i = i
 stepped above (suc steps) i = stepped above steps (slice_index above i)
+
+-- where the steps up lead that were taken from each of so many: none yet, or these
+abbrev pub far_from : (count : ℕ) → Option (List ℕ) → List ℕ
+far_from count None = range_with_len 0 count
+far_from count (Some far) = far
 
 -- each number of the list is a place in it
 abbrev pub IsClosed : List ℕ → Type 0

@@ -1,6 +1,7 @@
 -- What a check keeps of the records of a volume.
-use Rattle.std.specs.Prelude.{◌≡◌, ◌<◌, ℕ, List, if◌then◌else◌, nat_lt, length, map, slice_get, Option, Some, None, IfSome}
+use Rattle.std.specs.Prelude.{◌≡◌, ◌<◌, ℕ, ◌*◌, ◌/◌, List, if◌then◌else◌, nat_lt, length, map, slice_get, Option, Some, None, IfSome}
 use Rattle.std.specs.List.{range_with_len}
+use Rattle.lufs_base.specs.Layout.{inode_address}
 use Rattle.lufs_base.specs.declared.geometry.Geometry.{Geometry}
 use Rattle.volume_model.specs.declared.inode.Dinode.{Dinode}
 use Rattle.volume_model.specs.Format.{Blocks, Image, block}
@@ -23,6 +24,6 @@ allowed i None = None
 allowed i (Some None) = Some None
 allowed i (Some (Some d)) = if nat_lt i 2 then None else Some (Some d)
 
--- the bytes are those of the block of this number, if there is one
-abbrev pub AreOfBlock : Option Image → Option ℕ → List ℕ → Type 0
-AreOfBlock content number bytes = IfSome content (λ image. IfSome number (λ b. bytes ≡ block image b))
+-- the bytes are those of the block with this row of inodes, of 32 each, if there is one
+abbrev pub AreOfRow : Geometry → Option Image → Option ℕ → List ℕ → Type 0
+AreOfRow g content row bytes = IfSome content (λ image. IfSome row (λ k. bytes ≡ block image (inode_address g (32 * k) / 4096)))

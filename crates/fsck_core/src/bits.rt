@@ -1,12 +1,12 @@
 //! The bits of the groups, and their counts.
-ghost use Rattle.std.specs.Prelude.{◌≡◌, ◌<◌, ◌≤◌, ◌*◌, ◌^◌, [], length, map, is_some};
+ghost use Rattle.std.specs.Prelude.{◌≡◌, ◌<◌, ◌≤◌, ◌*◌, ◌^◌, [], ℕ, length, map, slice_get, is_some, IfSome, IsTrue};
 ghost use Rattle.std.specs.List.{count_by};
 ghost use Rattle.lufs_base.specs.Layout.{IsGeometry, group_start, blocks_of};
 ghost use Rattle.volume_model.specs.Format.{Blocks, inodes_of, body_blocks_of, clear_bits};
 ghost use Rattle.volume_model.specs.declared.finding.Kind.TheVariants.{InodeBit, BlockBit, Count};
 ghost use Rattle.volume_model.specs.Sound.{reading_of, claims_of, inode_bit, has_bad_inode_bit, has_bad_count, has_right_counts, first_of_kind, counts_of};
 ghost use Rattle.cyl_groups.specs.Group.{record_of};
-ghost use Rattle.fsck_core.specs.Bits.{block_bit_among, has_other_bit};
+ghost use Rattle.fsck_core.specs.Bits.{block_bit_among, has_other_bit, BlocksAgree};
 ghost use Rattle.fsck_core.specs.Inodes.{AreBriefs};
 ghost use Rattle.fsck_core.specs.Tables.{AreGroups};
 ghost use Rattle.fsck_core.specs.Claimed.{HasClaimed};
@@ -42,6 +42,10 @@ pub(crate) fn first_bad_block_bit(g: &Geometry, groups: &[Group], claims: &Claim
         → HasClaimed (blocks_of g.now) (map (λ claim. claim.block) (claims_of (reading_of g.now blocks))) claims.now
         → result ≡ first_of_kind g.now (reading_of g.now blocks) [] BlockBit }
 {
+    // Group by group, without a division for each block. Mostly that is all.
+    if all_blocks_agree(g, groups, claims) {
+        return None;
+    }
     (0..g.total()).find(|b| has_bad_block_bit(g, groups, claims, *b))
 }
 
@@ -117,6 +121,37 @@ fn block_bit(g: &Geometry, groups: &[Group], b: u32) -> bool
     is_set(&groups[(at / g.bpg) as usize].block_bits, at % g.bpg)
 }
 
+// Whether the bit of each body block says whether it is claimed.
+fn all_blocks_agree(g: &Geometry, groups: &[Group], claims: &Claims) -> bool
+    requires geometry { IsGeometry g.now }
+    requires groups { length groups.now ≡ g.now.groups }
+    requires room { blocks_of g.now ≤ 8 * length claims.now.bits.items }
+    ensures { IsTrue result → (n : ℕ) → n < g.now.groups → IfSome (slice_get groups.now n) (λ x. BlocksAgree g.now n x claims.now g.now.bpg) }
+{
+    for n in 0..g.groups {
+        if !blocks_agree(g, n, &groups[n as usize], claims) {
+            return false;
+        }
+    }
+    true
+}
+
+// Whether the bit of each body block of group `n` says whether it is claimed.
+fn blocks_agree(g: &Geometry, n: u32, group: &Group, claims: &Claims) -> bool
+    requires geometry { IsGeometry g.now }
+    requires inside { n < g.now.groups }
+    requires room { blocks_of g.now ≤ 8 * length claims.now.bits.items }
+    ensures { IsTrue result → BlocksAgree g.now n group.now claims.now g.now.bpg }
+{
+    let start = g.group_block(n).0;
+    for k in 1 + g.ipg / 32..g.bpg {
+        if is_set(&group.block_bits, k) != claims.is_claimed(start + k) {
+            return false;
+        }
+    }
+    true
+}
+
 // Whether a count of group `n` is not that of its clear bits.
 fn has_bad_count(g: &Geometry, groups: &[Group], n: u32) -> bool
     requires geometry { IsGeometry g.now }
@@ -149,7 +184,13 @@ fn count_used(inodes: &[Option<Brief>]) -> u32
     requires { length inodes.now < 2 ^ 32 }
     ensures { result ≡ count_by is_some inodes.now }
 {
-    inodes.iter().filter(|inode| inode.is_some()).count() as u32
+    let mut count = 0;
+    for inode in inodes {
+        if inode.is_some() {
+            count += 1;
+        }
+    }
+    count
 }
 
 // How many body blocks the volume has: those of each group after the group block and the inode blocks.

@@ -1,12 +1,14 @@
 //! The slots of a directory where they stand in its bytes, so that no name is copied.
 ghost use Rattle.std.specs.Prelude.{◌≡◌, ◌<◌, ◌≤◌, ◌^◌, [], ◌++◌, map, length, true, IfOk};
 ghost use Rattle.std.specs.Bool.{OnTrue};
+ghost use Rattle.std.specs.List.{list_all};
 ghost use Rattle.std.specs.Option.{is_some, unwrap_or};
 ghost use Rattle.lufs_base.specs.Fields.{u16_at};
+ghost use Rattle.lufs_base.specs.Name.{is_name, is_name_byte};
 ghost use Rattle.volume_model.specs.Format.{least_length, is_named, is_slot, slot_at, chunk_of};
 ghost use Rattle.fsck_core.specs.Slots.{slot_of};
 
-use lufs_base::{Mem, get_u16, get_u32, is_name};
+use lufs_base::{Mem, get_u16, get_u32};
 
 /// A slot of a directory, whose name stands in the bytes of the directory.
 #[derive(Clone, Copy, Debug)]
@@ -27,6 +29,30 @@ fn least_length(name_len: usize) -> usize
     ensures { result ≡ least_length name_len }
 {
     HEAD + 4 * ((name_len + 4) / 4)
+}
+
+fn is_name_byte(b: u8) -> bool
+    ensures { result ≡ is_name_byte b }
+{
+    0x21 <= b && b <= 0x7e && b != b'/'
+}
+
+// Whether a name may have these bytes. None ends the loop early, so that sixteen are looked at at once.
+fn are_name_bytes(bytes: &[u8]) -> bool
+    ensures { result ≡ list_all is_name_byte bytes.now }
+{
+    let mut are = true;
+    for b in bytes {
+        are &= is_name_byte(*b);
+    }
+    are
+}
+
+// Whether a directory may give a name of these bytes.
+fn is_name(bytes: &[u8]) -> bool
+    ensures { result ≡ is_name bytes.now }
+{
+    1 <= bytes.len() && bytes.len() <= 255 && are_name_bytes(bytes)
 }
 
 // Whether the bytes of a slot have a right name, a zero byte after it, and room for both.

@@ -1,5 +1,5 @@
 //! Whether the links, the size and the block numbers of an inode are right.
-ghost use Rattle.std.specs.Prelude.{◌≡◌, ◌≢◌, ◌<◌, ◌≤◌, ℕ, ◌*◌, ◌==◌, ◌&&◌, ◌||◌, true, not, List, Option, All, IsTrue, length, take, drop};
+ghost use Rattle.std.specs.Prelude.{◌≡◌, ◌≢◌, ◌<◌, ◌≤◌, ℕ, ◌*◌, ◌%◌, ◌^◌, ◌==◌, ◌&&◌, ◌||◌, true, not, List, Option, All, IsTrue, length, take, drop};
 ghost use Rattle.std.specs.List.{count_by, list_all};
 ghost use Rattle.lufs_base.specs.Fields.{are_zeros};
 ghost use Rattle.lufs_base.specs.Layout.{IsGeometry};
@@ -10,7 +10,7 @@ ghost use Rattle.volume_model.specs.Sound.{size_in_blocks, named_pointers, has_r
 ghost use Rattle.fsck_core.specs.Claimed.{used_with, blocks_claimed, IsReadable};
 
 use crate::types::{is_directory, is_file, is_link};
-use lufs_base::{BlockNo, Geometry, Region};
+use lufs_base::Geometry;
 use volume_model::Dinode;
 
 /// Whether the links, the size and the block numbers of an inode are right, whose numbers by index are these.
@@ -96,7 +96,12 @@ fn has_none_past(d: &Dinode, numbers: &[u32]) -> bool
 fn are_zeros(numbers: &[u32]) -> bool
     ensures { result ≡ are_zeros numbers.now }
 {
-    numbers.iter().all(|b| *b == 0)
+    let mut are = true;
+    // None ends the loop early, so that a few are looked at at once.
+    for b in numbers {
+        are &= *b == 0;
+    }
+    are
 }
 
 /// Whether the inode may have the holes that it has: a file may have any.
@@ -151,7 +156,21 @@ pub(crate) fn is_body(g: &Geometry, b: u32) -> bool
     requires { IsGeometry g.now }
     ensures { result ≡ is_body g.now b }
 {
-    b < g.total() && matches!(g.region(BlockNo(b)), Region::Body(_))
+    let first = g.group_block(0).0;
+    first <= b && b < g.total() && rest_of(b - first, g.bpg) > g.ipg / 32
+}
+
+// The rest of a division. Mostly a group has a power of two of blocks, and then no division is needed.
+fn rest_of(at: u32, n: u32) -> u32
+    requires some { 0 < n }
+    requires fits { n ≤ 2 ^ 31 }
+    ensures { result ≡ at % n }
+{
+    if n.next_power_of_two() == n {
+        at & (n - 1)
+    } else {
+        at % n
+    }
 }
 
 /// How many blocks are claimed.

@@ -110,5 +110,8 @@ fn add_name(namers: &mut Vec<Namer>, i: u32, slot: &Entry)
 fn is_dot(slot: &Entry) -> bool
     ensures { result ≡ is_dot (slot_of slot.now) }
 {
+    if slot.name.len() > 2 {
+        return false;
+    }
     slot.name == b".".as_slice() || slot.name == b"..".as_slice()
 }

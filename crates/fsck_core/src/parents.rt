@@ -1,11 +1,11 @@
 //! Whether each directory has its place in the tree, and each inode its links.
-ghost use Rattle.std.specs.Prelude.{◌≡◌, ◌<◌, ◌^◌, ℕ, map, length, slice_get, slice_index, slice_index_or, slice_set, min, find, None, IfOk, IsTrue};
-ghost use Rattle.std.specs.List.{range_with_len};
+ghost use Rattle.std.specs.Prelude.{◌≡◌, ◌<◌, ◌^◌, ◌==◌, ℕ, map, length, slice_get, slice_index, slice_index_or, slice_set, min, find, None, IfOk, IsTrue};
+ghost use Rattle.std.specs.List.{list_all, range_with_len};
 ghost use Rattle.std.specs.Option.{option_flatten, option_map};
 ghost use Rattle.volume_model.specs.Sound.{Names, Reading, inodes_in, used_at, names_in_reading, is_directory_in, parent_at, has_bad_parent, has_bad_links};
 ghost use Rattle.fsck_core.specs.Inodes.{brief_of};
 ghost use Rattle.fsck_core.specs.NameTables.{most_links, HasSizes, HasNames};
-ghost use Rattle.fsck_core.specs.StepsUp.{is_directory_record, is_placed, is_misplaced, has_other_links, LeadsUp};
+ghost use Rattle.fsck_core.specs.StepsUp.{is_directory_record, is_placed, is_misplaced, has_other_links, far_from, LeadsUp};
 
 use crate::inodes::Brief;
 use crate::names::{NameTables, Namer};
@@ -32,7 +32,7 @@ pub(crate) fn first_bad_parent(
     let count = inodes.len() as u32;
     let above = steps_up(alloc, &tables.parents)?;
     // Without a circle the steps to the root are fewer than there are inodes.
-    let far = far_above(alloc, &above, count.saturating_sub(1))?;
+    let far = far_above(alloc, above, count.saturating_sub(1))?;
     Ok((0..count).find(|i| is_misplaced(inodes, tables, &far, *i)))
 }
 
@@ -103,43 +103,75 @@ fn steps_up(alloc: Global, parents: &[u32]) -> Result<Vec<u32>, Mem>
 }
 
 // The inode to which so many steps up lead from each. A pass doubles the length of a step, so that few are
-// needed; where that changes no step, one leads as far as all that are left.
-fn far_above(alloc: Global, above: &[u32], steps: u32) -> Result<Vec<u32>, Mem>
-    requires { length above.now < 2 ^ 32 }
-    ensures { IfOk result (λ far. LeadsUp above.now steps far.items) }
+// needed; where two steps lead no further than one, that leads as far as all that are left.
+fn far_above(alloc: Global, above: Vec<u32>, steps: u32) -> Result<Vec<u32>, Mem>
+    requires { length above.items < 2 ^ 32 }
+    ensures { IfOk result (λ far. LeadsUp above.items steps far.items) }
 {
-    let mut far: Vec<u32> = (0..above.len() as u32).collect(alloc)?;
-    let mut step = Vec::from_slice(alloc, above)?;
+    // None where no step is taken yet.
+    let mut far: Option<Vec<u32>> = None;
+    let mut step = above;
     let mut left = steps;
     while left != 0 {
-        let twice = composed(alloc, &step, &step)?;
-        if are_same(&twice, &step) {
-            return composed(alloc, &far, &step);
+        if leads_no_further(&step) {
+            return with_last(alloc, far, step);
         }
         if left % 2 == 1 {
-            far = composed(alloc, &far, &step)?;
+            far = Some(one_further(alloc, &far, &step)?);
         }
-        step = twice;
+        step = composed(alloc, &step, &step)?;
         left /= 2;
     }
-    Ok(far)
+    ended(alloc, far, step.len() as u32)
 }
 
-// Whether both lists are the same.
-fn are_same(first: &[u32], second: &[u32]) -> bool
-    ensures { IsTrue result → first.now ≡ second.now }
+// Where one step more leads from each, or one alone.
+fn one_further(alloc: Global, far: &Option<Vec<u32>>, step: &[u32]) -> Result<Vec<u32>, Mem>
+    ensures { IfOk result (λ v. v.items ≡ map (slice_index step.now) (far_from (length step.now) (option_map (λ f. f.items) far.now))) }
 {
-    first == second
+    match far {
+        Some(far) => composed(alloc, far, step),
+        None => Ok(Vec::from_slice(alloc, step)?),
+    }
+}
+
+// The same, where that step is the last, so that no copy of it is needed.
+fn with_last(alloc: Global, far: Option<Vec<u32>>, step: Vec<u32>) -> Result<Vec<u32>, Mem>
+    ensures { IfOk result (λ v. v.items ≡ map (slice_index step.items) (far_from (length step.items) (option_map (λ f. f.items) far))) }
+{
+    match far {
+        Some(far) => composed(alloc, &far, &step),
+        None => Ok(step),
+    }
+}
+
+// Where the steps lead that were taken from each of so many.
+fn ended(alloc: Global, far: Option<Vec<u32>>, count: u32) -> Result<Vec<u32>, Mem>
+    ensures { IfOk result (λ v. v.items ≡ far_from count (option_map (λ f. f.items) far)) }
+{
+    match far {
+        Some(far) => Ok(far),
+        None => Ok((0..count).collect(alloc)?),
+    }
+}
+
+// Whether two such steps lead no further than one.
+fn leads_no_further(step: &[u32]) -> bool
+    ensures { result ≡ list_all (λ i. slice_index step.now i == i) step.now }
+{
+    step.iter().all(|i| step_from(step, *i) == *i)
+}
+
+// Where a step leads from inode `i`.
+fn step_from(step: &[u32], i: u32) -> u32
+    ensures { result ≡ slice_index step.now i }
+{
+    step.get(i as usize).copied().unwrap_or(0)
 }
 
 // For each number of the first list what the second one has at that place, and 0 past its end.
 fn composed(alloc: Global, first: &[u32], second: &[u32]) -> Result<Vec<u32>, Mem>
     ensures { IfOk result (λ v. v.items ≡ map (slice_index second.now) first.now) }
 {
-    Ok(
-        first
-            .iter()
-            .map(|i| second.get(*i as usize).copied().unwrap_or(0))
-            .collect(alloc)?,
-    )
+    Ok(first.iter().map(|i| step_from(second, *i)).collect(alloc)?)
 }

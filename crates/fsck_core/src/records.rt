@@ -7,7 +7,7 @@ ghost use Rattle.sector_disk.specs.Disk.{CountsFailure, FailsJustAt};
 ghost use Rattle.cyl_groups.specs.Group.{record_of};
 ghost use Rattle.meta_store.specs.Store.{IsUnchanged};
 ghost use Rattle.fsck_core.specs.Inodes.{AreKept, HasKept};
-ghost use Rattle.fsck_core.specs.Tables.{AreGroups, AreOfBlock, allowed};
+ghost use Rattle.fsck_core.specs.Tables.{AreGroups, AreOfRow, allowed};
 ghost use Rattle.fsck_core.specs.Answers.{IsPartOf};
 ghost use Rattle.meta_store.specs.declared.error.StoreError.TheVariants.{Disk};
 ghost use Rattle.fsck_core.specs.declared.stop.Stop.TheVariants.{Failed};
@@ -17,7 +17,7 @@ use crate::stop::Stop;
 use crate::window::Window;
 use cyl_groups::{Group, read_group};
 use inode_table::read_dinode;
-use lufs_base::{BLOCK, DiskFault, Ino};
+use lufs_base::{BLOCK, DiskFault};
 use meta_store::MetaRead;
 use std::alloc::Global;
 use volume_model::{Dinode, Kind};
@@ -56,11 +56,13 @@ pub(crate) fn read_groups<S: MetaRead>(alloc: Global, store: &mut S) -> Result<V
     Ok(groups)
 }
 
-// Whether all of a record is zeros, as that of an inode that isn't in use is. Whole words of it are compared.
+// Whether all of a record is zeros, as that of an inode that isn't in use is. One in use has a mode, which its first
+// byte tells; else whole words are compared.
 fn is_free(bytes: &[u8]) -> bool
+    requires { length bytes.now ≡ 128 }
     ensures { IsTrue result → bytes.now ≡ replicate 128 0 }
 {
-    bytes == [0; RECORD].as_slice()
+    bytes[0] == 0 && bytes == [0; RECORD].as_slice()
 }
 
 // What these bytes of a record say, if they are one.
@@ -81,17 +83,16 @@ fn inode_record<S: MetaRead>(
     i: u32,
 ) -> Result<Option<Option<Dinode>>, DiskFault>
     requires inside { i < inodes_of (S.store store.old).geometry }
-    requires held { AreOfBlock (S.store store.old).content window.old.number window.old.bytes }
+    requires held { AreOfRow (S.store store.old).geometry (S.store store.old).content window.old.row window.old.bytes }
     ensures value { IfSome (S.store store.old).content (λ image. IfOk result (λ found. found ≡ inode_at (S.store store.old).geometry (block image) i)) }
-    ensures held { AreOfBlock (S.store store.old).content window.new.number window.new.bytes }
+    ensures held { AreOfRow (S.store store.old).geometry (S.store store.old).content window.new.row window.new.bytes }
     ensures unchanged { IsUnchanged (S.store store.old) (S.store store.new) }
     ensures failure { CountsFailure result (S.store store.old).disk (S.store store.new).disk }
 {
-    let g = *store.geometry();
-    let place = g.inode_place(Ino(i));
-    window.show(store, (place / BLOCK as u64) as u32)?;
-    let at = (place % BLOCK as u64) as usize;
-    Ok(read_record(g.version, &window.bytes[at..at + RECORD]))
+    let version = store.geometry().version;
+    window.show(store, i)?;
+    let at = RECORD * (i % 32) as usize;
+    Ok(read_record(version, &window.bytes[at..at + RECORD]))
 }
 
 // What the record of inode i says, where it may say so: the inodes 0 and 1 are never in use.

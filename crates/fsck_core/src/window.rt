@@ -1,45 +1,48 @@
-//! A window on a store: the block that was read last, which isn't read again.
-ghost use Rattle.std.specs.Prelude.{◌≡◌, ◌<◌, None, Some, OnOk};
-ghost use Rattle.lufs_base.specs.Layout.{blocks_of};
+//! A window on the inodes of a store: the block with the row of 32 inodes that was read last, which isn't read again.
+ghost use Rattle.std.specs.Prelude.{◌≡◌, ◌<◌, ◌/◌, None, Some, OnOk};
+ghost use Rattle.volume_model.specs.Format.{inodes_of};
 ghost use Rattle.sector_disk.specs.Disk.{CountsFailure};
 ghost use Rattle.meta_store.specs.Store.{IsUnchanged};
-ghost use Rattle.fsck_core.specs.Tables.{AreOfBlock};
+ghost use Rattle.fsck_core.specs.Tables.{AreOfRow};
 
-use lufs_base::{BLOCK, BlockNo, DiskFault};
+use lufs_base::{BLOCK, BlockNo, DiskFault, Ino};
 use meta_store::MetaRead;
 
 #[derive(Debug, Drop)]
 pub(crate) struct Window {
-    /// The number of the block, once there is one.
-    pub(crate) number: Option<u32>,
+    /// The row, once there is one.
+    pub(crate) row: Option<u32>,
     pub(crate) bytes: [u8; BLOCK],
 }
 
 impl Window {
     pub(crate) fn new() -> Self
-        ensures { result.number ≡ None }
+        ensures { result.row ≡ None }
     {
         Window {
-            number: None,
+            row: None,
             bytes: [0; BLOCK],
         }
     }
 
-    /// Moves the window to block `b`.
-    pub(crate) fn show<S: MetaRead>(&mut self, store: &mut S, b: u32) -> Result<(), DiskFault>
-        requires inside { b < blocks_of (S.store store.old).geometry }
-        requires held { AreOfBlock (S.store store.old).content self.old.number self.old.bytes }
-        ensures shown { OnOk result (self.new.number ≡ Some b) }
-        ensures held { AreOfBlock (S.store store.old).content self.new.number self.new.bytes }
+    /// Moves the window to the row of inode `i`.
+    pub(crate) fn show<S: MetaRead>(&mut self, store: &mut S, i: u32) -> Result<(), DiskFault>
+        requires inside { i < inodes_of (S.store store.old).geometry }
+        requires held { AreOfRow (S.store store.old).geometry (S.store store.old).content self.old.row self.old.bytes }
+        ensures shown { OnOk result (self.new.row ≡ Some (i / 32)) }
+        ensures held { AreOfRow (S.store store.old).geometry (S.store store.old).content self.new.row self.new.bytes }
         ensures unchanged { IsUnchanged (S.store store.old) (S.store store.new) }
         ensures failure { CountsFailure result (S.store store.old).disk (S.store store.new).disk }
     {
-        if self.number == Some(b) {
+        let row = i / 32;
+        if self.row == Some(row) {
             return Ok(());
         }
-        self.number = None;
-        store.block(BlockNo(b), &mut self.bytes)?;
-        self.number = Some(b);
+        self.row = None;
+        let g = *store.geometry();
+        let place = g.inode_place(Ino(32 * row));
+        store.block(BlockNo((place / BLOCK as u64) as u32), &mut self.bytes)?;
+        self.row = Some(row);
         Ok(())
     }
 }

@@ -1,14 +1,11 @@
-use Rattle.std.proofs.Common.{◌+◌, ◌-◌, ◌%◌, refl, arith}
-use Rattle.fsck_core.proofs.BlocksTold.{inode_told, inode_block_inside}
+use Rattle.std.proofs.Common.{◌+◌, ◌-◌, ◌*◌, ◌%◌, refl, ap, arith}
+use Rattle.lufs_base.specs.declared.geometry.Geometry.{Geometry}
+use Rattle.fsck_core.proofs.InodeRows.{inode_told}
 use Rattle.fsck_core.proofs.records.inode_record.Goals as goal
-
-pub show-requires-clause-inside : goal.show-requires-clause-inside
-show-requires-clause-inside g c =
-    inode_block_inside (g.S.MetaRead.store c.args.store.now).geometry c.geometry.result.now c.args.i c.inode_place-place.result _ c.geometry.ensures.value
-    c.geometry.ensures.in_range c.requires.inside c.inode_place-place.ensures (omega arith)
 
 pub returns-clause-value : goal.returns-clause-value
 returns-clause-value g c =
-    inode_told (g.S.MetaRead.store c.args.store.now).geometry c.geometry.result.now (g.S.MetaRead.store c.args.store.now).content c.args.i c.inode_place-place.result
-    ((c.inode_place-place.result % 4096 + 128) - c.inode_place-place.result % 4096) c.show.new.self.bytes c.show.new.self.number _ _ c.geometry.ensures.value c.inode_place-place.ensures c.in_ok-show.ensures.shown c.show.ensures.held refl
-    (omega arith) c.read_record.ensures
+    let told = g.S.MetaRead.store c.args.store.now in
+    let at = 128 * (c.args.i % 32) in
+    inode_told told.geometry told.content c.args.i c.geometry.result.now.version ((at + 128) - at) at c.show.new.self.bytes c.show.new.self.row _
+    c.geometry.ensures.in_range (ap (λ (h : Geometry). h.version) c.geometry.ensures.value) c.in_ok-show.ensures.shown c.show.ensures.held (omega arith) refl c.read_record.ensures

@@ -3,7 +3,7 @@ use Rattle.lufs_base.specs.declared.geometry.Geometry.{Geometry}
 use Rattle.volume_model.specs.Format.{Image, inodes_of}
 use Rattle.sector_disk.proofs.MadeCalls.{none_then}
 use Rattle.fsck_core.specs.Inodes.{HasKept}
-use Rattle.fsck_core.specs.Tables.{AreOfBlock}
+use Rattle.fsck_core.specs.Tables.{AreOfRow}
 use Rattle.fsck_core.proofs.StoreSteps.{unchanged_then}
 use Rattle.fsck_core.proofs.RecordLoops.{inodes_more, inode_wrong}
 use Rattle.fsck_core.proofs.records.read_inodes.Goals as goal
@@ -18,8 +18,10 @@ loop-i-preserved g c =
     let count : c.geometry.result.now.groups * c.geometry.result.now.ipg ≡ inodes_of told.geometry = ap inodes_of read in
     let below : l.i < inodes_of told.geometry = omega (arith, c.loop-i-test.true, l.auto.i-end, count) in
     record {
-      held = subst (λ (content : Option Image). AreOfBlock content c.inode_record.new.window.number c.inode_record.new.window.bytes)
-          (sym c.in_ok-inode_record.ensures.unchanged.content) c.in_ok-inode_record.ensures.held;
+      held = subst (λ (content : Option Image). AreOfRow (g.S.MetaRead.store c.inode_record.new.store).geometry content c.inode_record.new.window.row c.inode_record.new.window.bytes)
+          (sym c.in_ok-inode_record.ensures.unchanged.content)
+          (subst (λ (h : Geometry). AreOfRow h now.content c.inode_record.new.window.row c.inode_record.new.window.bytes) (sym c.in_ok-inode_record.ensures.unchanged.geometry)
+          c.in_ok-inode_record.ensures.held);
       kept = inodes_more told.geometry now.geometry c.geometry.result.now told.content now.content l.i c.in_ok-inode_record.field-0 c.in-Some.inode l.inodes after
           l.invariant.unchanged.geometry read l.invariant.unchanged.content below (sym c.allowed.ensures ∙ c.in-Some.is) c.in_ok-inode_record.ensures.value
           c.in_ok-push-in-Some.ensures.kept l.invariant.kept;

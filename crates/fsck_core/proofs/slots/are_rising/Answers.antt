@@ -1,6 +1,4 @@
-use Rattle.std.proofs.Common.{◌≡◌, ℕ, List, [], ◌∷◌, ◌++◌, map, Less, Bor, ap, sym, subst, ◌∙◌, ne_eqb, eq-eqb, take, get_or}
-use Rattle.std.specs.Cmp.Lexicographic.{slice_cmp}
-use Rattle.std.specs.Ordering.{nat_cmp}
+use Rattle.std.proofs.Common.{ℕ, List, [], ◌∷◌, ◌++◌, map, Bor, ap, sym, subst, ◌∙◌, ne_eqb, eq-eqb, take, get_or}
 use Rattle.volume_model.specs.declared.directory.Slot.{Slot}
 use Rattle.volume_model.specs.Sound.{has_twice}
 use Rattle.fsck_core.specs.Slots.{slot_of, used_slots}

@@ -1,4 +1,4 @@
-use Rattle.std.proofs.Common.{◌≡◌, ◌<◌, ℕ, ◌+◌, ◌*◌, ◌/◌, List, take, drop, slice_index, IfSome, ◌∙◌, sym, subst, arith}
+use Rattle.std.proofs.Common.{◌≡◌, ◌<◌, ℕ, ◌+◌, ◌*◌, ◌/◌, List, take, drop, slice_index, IfSome, ◌∙◌, sym, subst}
 use Rattle.volume_model.specs.Format.{block}
 use Rattle.fsck_core.proofs.SurveyTold.{told_other, told_past, told_looked, some_above}
 use Rattle.fsck_core.proofs.survey.look_at_names.Goals as goal

@@ -1,11 +1,10 @@
-use Rattle.std.proofs.Common.{◌≡◌, ℕ, ◌*◌, ◌<◌, ◌≤◌, ◌++◌, true, List, All, length, refl, sym, ap, subst, ◌∙◌, arith}
+use Rattle.std.proofs.Common.{◌≡◌, ℕ, ◌*◌, ◌<◌, ◌++◌, true, List, All, length, refl, sym, ap, subst, ◌∙◌, arith}
 use Rattle.std.proofs.lemmas.List.Elements.{All-weaker}
 use Rattle.lufs_base.specs.Layout.{blocks_of}
 use Rattle.lufs_base.specs.declared.geometry.Geometry.{Geometry}
 use Rattle.volume_model.specs.declared.inode.Dinode.{Dinode}
-use Rattle.volume_model.specs.Format.{inodes_of, is_body}
+use Rattle.volume_model.specs.Format.{is_body}
 use Rattle.volume_model.specs.Sound.{has_right_fields}
-use Rattle.fsck_core.specs.declared.claims.Claims.{Claims}
 use Rattle.fsck_core.specs.Claimed.{used_with, blocks_claimed, with_zeros, HasClaimed}
 use Rattle.fsck_core.proofs.ClaimBridges.{within_of_bodies}
 use Rattle.fsck_core.proofs.SurveyTold.{told_fields_wrong, told_names, told_seen}

@@ -1,4 +1,4 @@
-use Rattle.std.proofs.Common.{List, None, Some, Option, Vec, Global, map, option_map, refl, sym, ap, subst, ◌∙◌}
+use Rattle.std.proofs.Common.{List, None, Some, Option, Vec, Global, map, option_map, refl, sym, subst}
 use Rattle.volume_model.specs.Sound.{has_bad_bytes, has_bad_slots, names_in_reading}
 use Rattle.std.proofs.lemmas.Bool.{or_left}
 use Rattle.fsck_core.specs.declared.entries.Entry.{Entry}

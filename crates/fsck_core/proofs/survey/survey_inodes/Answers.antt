@@ -1,4 +1,4 @@
-use Rattle.std.proofs.Common.{◌≤◌, ◌+◌, ◌*◌, subst, arith}
+use Rattle.std.proofs.Common.{◌+◌, subst, arith}
 use Rattle.lufs_base.specs.declared.geometry.Geometry.{Geometry}
 use Rattle.volume_model.specs.Format.{block, inodes_of}
 use Rattle.sector_disk.proofs.MadeCalls.{none_then}

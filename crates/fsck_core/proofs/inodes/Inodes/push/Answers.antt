@@ -1,4 +1,4 @@
-use Rattle.std.proofs.Common.{Option, Some, None, ap, ◌∙◌}
+use Rattle.std.proofs.Common.{Option, Some, ap, ◌∙◌}
 use Rattle.volume_model.specs.declared.inode.Dinode.{Dinode}
 use Rattle.fsck_core.proofs.KeptInodes.{kept_none}
 use Rattle.fsck_core.proofs.inodes.Inodes.push.Goals as goal

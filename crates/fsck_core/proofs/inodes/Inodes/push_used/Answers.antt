@@ -1,4 +1,4 @@
-use Rattle.std.proofs.Common.{◌≡◌, ℕ, ◌++◌, ◌<◌, List, All, length, ap, sym, subst, ◌∙◌, arith}
+use Rattle.std.proofs.Common.{◌≡◌, ℕ, ◌++◌, ◌<◌, List, All, ap, sym, subst, ◌∙◌}
 use Rattle.lufs_base.specs.Layout.{blocks_of}
 use Rattle.fsck_core.specs.Claimed.{blocks_claimed, HasClaimed}
 use Rattle.fsck_core.proofs.ClaimBridges.{within_of_bodies}

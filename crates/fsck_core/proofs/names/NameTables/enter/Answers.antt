@@ -1,4 +1,4 @@
-use Rattle.std.proofs.Common.{◌+◌, ℕ, List, map, get_or, ap, sym, ◌∙◌, take, take_all}
+use Rattle.std.proofs.Common.{ℕ, List, map, get_or, ap, sym, ◌∙◌, take_all}
 use Rattle.std.specs.List.{fold}
 use Rattle.fsck_core.specs.declared.names.Namer.{Namer}
 use Rattle.fsck_core.specs.NameTables.{with_link, with_name}

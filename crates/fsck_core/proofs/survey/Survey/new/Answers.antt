@@ -1,4 +1,4 @@
-use Rattle.std.proofs.Common.{◌≡◌, ℕ, List, ◌++◌, refl, sym, ap, subst, append-nil, arith}
+use Rattle.std.proofs.Common.{ℕ, List, refl, sym, subst, append-nil, arith}
 use Rattle.lufs_base.specs.Layout.{blocks_of}
 use Rattle.volume_model.specs.Format.{inodes_of}
 use Rattle.volume_model.specs.Sound.{names_in_reading}
