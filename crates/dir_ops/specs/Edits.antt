@@ -26,6 +26,12 @@ pub record DrawsTree (g : Geometry) (base : Image) (taken : ℕ → Bool) (old n
   pub links : (k : ℕ) → links_at g (drafted_blocks new base) k ≡ links_at g (drafted_blocks old base) k
   pub others : (k : ℕ) → k ≢ dir → used_at (reading_of g (drafted_blocks new base)) k ≡ used_at (reading_of g (drafted_blocks old base)) k
 
+-- From one change to the next only deltas are others.
+pub record PutsDeltas (old new : Change) : Type 0 where
+  pub taken : new.taken ≡ old.taken
+  pub freed : new.freed ≡ old.freed
+  pub raw : new.raw ≡ old.raw
+
 -- Where the content is told and the old change is a draft of it, its tree was edited at Ok, with the same hands.
 abbrev pub IsEdited : StoreTold → (old new : Change) → (dir : ℕ) → (edit : Tree → Tree) → Result Unit StoreError → Type 0
 IsEdited told old new dir edit result = IfSome told.content (λ base. (taken : ℕ → Bool) (hands : List Hand) → IsDraft told.geometry base taken old hands

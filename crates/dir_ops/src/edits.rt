@@ -10,7 +10,7 @@ ghost use Rattle.meta_store.specs.Changing.{IsKept};
 ghost use Rattle.meta_store.specs.declared.error.StoreError.TheVariants.{Disk};
 ghost use Rattle.dir_ops.specs.Directories.{serves, PutsSlot};
 ghost use Rattle.dir_ops.specs.declared.directory.Wanted.TheVariants.{Named};
-ghost use Rattle.dir_ops.specs.Edits.{IsEdited, slot_changed, with_slot_changed};
+ghost use Rattle.dir_ops.specs.Edits.{IsEdited, PutsDeltas, slot_changed, with_slot_changed};
 
 use crate::directory::{Directory, Found, Wanted};
 use dir_blocks::Chunk;
@@ -42,6 +42,7 @@ fn change_in(
 ) -> Result<(), Mem>
     requires number { IfSome to (λ i. i.0 ≢ 0) }
     ensures ok { OnOk result (PutsSlot directory.now found name.now (option_map (λ i. i.0) to) draft.old.change draft.new.change) }
+    ensures rest { OnOk result (PutsDeltas draft.old.change draft.new.change) }
     ensures growth { delta_bytes draft.new.change.deltas ≤ delta_bytes draft.old.change.deltas + 528 }
 {
     let mut chunk = found.chunk;
@@ -63,6 +64,7 @@ fn change_slot<S: MetaRead>(
 ) -> Result<(), StoreError>
     requires number { IfSome to (λ i. i.0 ≢ 0) }
     ensures drawn { IsEdited (S.store store.old) draft.old.change draft.new.change dir.0 (with_slot_changed dir.0 name.now (option_map (λ i. i.0) to)) result }
+    ensures rest { OnOk result (PutsDeltas draft.old.change draft.new.change) }
     ensures growth { delta_bytes draft.new.change.deltas ≤ delta_bytes draft.old.change.deltas + 528 }
     ensures unchanged { IsUnchanged (S.store store.old) (S.store store.new) }
     ensures kept { IsKept (S.changing store.old) (S.changing store.new) }
@@ -89,6 +91,7 @@ pub fn replace<S: MetaRead>(
     i: Ino,
 ) -> Result<(), StoreError>
     ensures drawn { i.0 ≢ 0 → IsEdited (S.store store.old) draft.old.change draft.new.change dir.0 (edited (Point dir.0 name.now i.0)) result }
+    ensures rest { OnOk result (PutsDeltas draft.old.change draft.new.change) }
     ensures growth { delta_bytes draft.new.change.deltas ≤ delta_bytes draft.old.change.deltas + 528 }
     ensures unchanged { IsUnchanged (S.store store.old) (S.store store.new) }
     ensures kept { IsKept (S.changing store.old) (S.changing store.new) }
@@ -110,6 +113,7 @@ pub fn remove<S: MetaRead>(
     name: &Name,
 ) -> Result<(), StoreError>
     ensures drawn { IsEdited (S.store store.old) draft.old.change draft.new.change dir.0 (edited (TakeOut dir.0 name.now)) result }
+    ensures rest { OnOk result (PutsDeltas draft.old.change draft.new.change) }
     ensures growth { delta_bytes draft.new.change.deltas ≤ delta_bytes draft.old.change.deltas + 528 }
     ensures unchanged { IsUnchanged (S.store store.old) (S.store store.new) }
     ensures kept { IsKept (S.changing store.old) (S.changing store.new) }
@@ -127,6 +131,7 @@ pub fn set_parent<S: MetaRead>(
     parent: Ino,
 ) -> Result<(), StoreError>
     ensures drawn { parent.0 ≢ 0 → IsEdited (S.store store.old) draft.old.change draft.new.change dir.0 (edited (SetParent dir.0 parent.0)) result }
+    ensures rest { OnOk result (PutsDeltas draft.old.change draft.new.change) }
     ensures growth { delta_bytes draft.new.change.deltas ≤ delta_bytes draft.old.change.deltas + 528 }
     ensures unchanged { IsUnchanged (S.store store.old) (S.store store.new) }
     ensures kept { IsKept (S.changing store.old) (S.changing store.new) }

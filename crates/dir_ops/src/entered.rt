@@ -9,7 +9,7 @@ ghost use Rattle.meta_store.specs.Changing.{IsKept};
 ghost use Rattle.meta_store.specs.declared.error.StoreError.TheVariants.{Disk};
 ghost use Rattle.dir_ops.specs.Directories.{serves, PutsName};
 ghost use Rattle.dir_ops.specs.declared.directory.Wanted.TheVariants.{Roomy};
-ghost use Rattle.dir_ops.specs.Edits.{IsEntered};
+ghost use Rattle.dir_ops.specs.Edits.{IsEntered, PutsDeltas};
 
 use crate::directory::{Directory, Found, Wanted};
 use crate::growth::grow;
@@ -32,6 +32,7 @@ fn enter_in(
     requires allowed { IsName name }
     requires number { i.0 ≢ 0 }
     ensures ok { OnOk result (PutsName directory.now found name i.0 draft.old.change draft.new.change) }
+    ensures rest { OnOk result (PutsDeltas draft.old.change draft.new.change) }
     ensures growth { delta_bytes draft.new.change.deltas ≤ delta_bytes draft.old.change.deltas + 528 }
 {
     let mut chunk = found.chunk;
@@ -52,6 +53,7 @@ fn enter_some<S: MetaRead>(
     requires allowed { IsName name.now }
     requires number { i.0 ≢ 0 }
     ensures drawn { IsEntered (S.store store.old) draft.old.change draft.new.change dir.0 name.now fresh.now (edited (Enter dir.0 name.now i.0)) result }
+    ensures rest { OnOk result (PutsDeltas draft.old.change draft.new.change) }
     ensures growth { delta_bytes draft.new.change.deltas ≤ delta_bytes draft.old.change.deltas + 724 }
     ensures unchanged { IsUnchanged (S.store store.old) (S.store store.new) }
     ensures kept { IsKept (S.changing store.old) (S.changing store.new) }
@@ -87,6 +89,7 @@ pub fn enter<S: MetaRead>(
 ) -> Result<(), StoreError>
     requires allowed { IsName name.now }
     ensures drawn { i.0 ≢ 0 → IsEntered (S.store store.old) draft.old.change draft.new.change dir.0 name.now fresh.now (edited (Enter dir.0 name.now i.0)) result }
+    ensures rest { OnOk result (PutsDeltas draft.old.change draft.new.change) }
     ensures growth { delta_bytes draft.new.change.deltas ≤ delta_bytes draft.old.change.deltas + 724 }
     ensures unchanged { IsUnchanged (S.store store.old) (S.store store.new) }
     ensures kept { IsKept (S.changing store.old) (S.changing store.new) }

@@ -6,6 +6,7 @@ ghost use Rattle.volume_model.specs.Log.{delta_bytes};
 ghost use Rattle.meta_draft.specs.Deltas.{inode_delta, chunk_delta, zero_delta, pointers_delta};
 ghost use Rattle.meta_draft.specs.Drafted.{with_delta};
 ghost use Rattle.meta_store.specs.Changes.{numbers_in};
+ghost use Rattle.dir_ops.specs.Edits.{PutsDeltas};
 ghost use Rattle.dir_ops.specs.Growth.{with_block, with_number, with_room, with_direct, with_pointer, with_inode, with_chunk_added, AddsBlock, AddsPointer, AddsByPointer, Grows};
 
 use crate::directory::Directory;
@@ -109,6 +110,7 @@ fn add_block(
     requires sized { directory.now.dinode.size < 2 ^ 32 }
     requires direct { k < 12 }
     ensures ok { OnOk result (AddsBlock g.now dir.0 directory.now k chunk.now (numbers_in fresh.now) draft.old.change draft.new.change) }
+    ensures rest { OnOk result (PutsDeltas draft.old.change draft.new.change) }
     ensures growth { delta_bytes draft.new.change.deltas ≤ delta_bytes draft.old.change.deltas + 688 }
 {
     let Some(b) = one_of(fresh) else {
@@ -136,6 +138,7 @@ fn add_pointer(
     requires inside { dir.0 < inodes_of g.now }
     requires sized { directory.now.dinode.size < 2 ^ 32 }
     ensures ok { OnOk result (AddsPointer g.now dir.0 directory.now chunk.now (numbers_in fresh.now) draft.old.change draft.new.change) }
+    ensures rest { OnOk result (PutsDeltas draft.old.change draft.new.change) }
     ensures growth { delta_bytes draft.new.change.deltas ≤ delta_bytes draft.old.change.deltas + 724 }
 {
     let Some((b, p)) = two_of(fresh) else {
@@ -167,6 +170,7 @@ fn add_by_pointer(
     requires sized { directory.now.dinode.size < 2 ^ 32 }
     requires number { j < 1024 }
     ensures ok { OnOk result (AddsByPointer g.now dir.0 directory.now j chunk.now (numbers_in fresh.now) draft.old.change draft.new.change) }
+    ensures rest { OnOk result (PutsDeltas draft.old.change draft.new.change) }
     ensures growth { delta_bytes draft.new.change.deltas ≤ delta_bytes draft.old.change.deltas + 708 }
 {
     let p = directory.dinode.indirect[0];
@@ -199,6 +203,7 @@ pub(crate) fn grow(
     requires inside { dir.0 < inodes_of g.now }
     requires counted { directory.now.opened.count ≡ min (directory.now.dinode.size / 512) 2048 }
     ensures ok { OnOk result (Grows g.now dir.0 directory.now chunk.now (numbers_in fresh.now) draft.old.change draft.new.change) }
+    ensures rest { OnOk result (PutsDeltas draft.old.change draft.new.change) }
     ensures growth { delta_bytes draft.new.change.deltas ≤ delta_bytes draft.old.change.deltas + 724 }
 {
     let count = directory.opened.count;
