@@ -47,7 +47,7 @@ there_by_number blocks u k zeros =
           ∙ sym (ap (λ (n : ℕ). not (eqb n 0)) (past_zeros u.numbers s k zeros past))
     ]
 
-no_more : (n k : ℕ) → ◌≡◌ {A = Option (List ℕ)} (get_or (replicate n None) k None) None
+pub no_more : (n k : ℕ) → ◌≡◌ {A = Option (List ℕ)} (get_or (replicate n None) k None) None
 no_more n k = elim (cases_lt k n) [
   | inl below ↦ get_or-replicate n k None None below
   | inr past ↦ get_or_past (replicate n None) k None (omega (arith, past, length-replicate {A = Option (List ℕ)} n None))

@@ -1,7 +1,7 @@
 //! An inode that is asked for, if the volume has it.
-ghost use Rattle.std.specs.Prelude.{◌≡◌, nat_lt, option_map, IfSome, IfOk};
+ghost use Rattle.std.specs.Prelude.{◌≡◌, ◌<◌, nat_lt, option_map, IfSome, IfOk};
 ghost use Rattle.lufs_base.specs.Layout.{IsGeometry};
-ghost use Rattle.volume_model.specs.Format.{block, inodes_of};
+ghost use Rattle.volume_model.specs.Format.{block, inodes_of, IsDinode};
 ghost use Rattle.volume_model.specs.Sound.{reading_of, used_at, used_inode};
 ghost use Rattle.sector_disk.specs.Disk.{CountsFailure};
 ghost use Rattle.meta_store.specs.Store.{IsUnchanged};
@@ -29,6 +29,8 @@ pub(crate) fn used_inode<S: MetaRead>(
 ) -> Result<Option<Dinode>, DiskFault>
     ensures value { IfSome (drafted draft.now.change (S.store store.old)).content (λ image. IfOk result (λ found.
         option_map (used_inode (block image)) found ≡ used_at (reading_of (S.store store.old).geometry (block image)) i.0)) }
+    ensures inode { IfOk result (λ found. IfSome found (IsDinode (S.store store.old).geometry.version)) }
+    ensures inside { IfOk result (λ found. IfSome found (λ d. i.0 < inodes_of (S.store store.old).geometry)) }
     ensures unchanged { IsUnchanged (S.store store.old) (S.store store.new) }
     ensures kept { IsKept (S.changing store.old) (S.changing store.new) }
     ensures failure { CountsFailure result (S.store store.old).disk (S.store store.new).disk }

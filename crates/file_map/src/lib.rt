@@ -2,16 +2,27 @@
 //! (`docs/definitions/changes.md`, "Files in a draft").
 #![tactic(auto)]
 
+mod attached;
+mod cleared;
+mod drop;
 mod found;
+mod freed;
 mod indexes;
 mod laws;
 mod mapped;
 mod needed;
+mod shares;
+mod sizes;
 
+pub use attached::attach;
+pub use drop::drop_inode;
 pub use indexes::IndexList;
 pub use laws::mapped_bytes;
 pub use mapped::map;
 pub use needed::{Needed, blocks_needed};
+pub use sizes::cut;
 
+#[cfg(test)]
+mod drop_tests;
 #[cfg(test)]
 mod tests;
