@@ -1,0 +1,3 @@
+pub mod StatReplies
+pub mod ListReplies
+pub mod AsItIs
