@@ -1,0 +1,14 @@
+pub mod Told
+pub mod Decided
+pub mod NameRooms
+pub mod AskedStores
+pub mod WantedCreate
+pub mod DecidedRemove
+pub mod WantedRemove
+pub mod LostLinks
+pub mod PlannedCalls
+pub mod Removed
+pub mod Created
+pub mod PlannedCreate
+pub mod PlannedStores
+pub mod RemovedStores
