@@ -20,7 +20,7 @@ use Rattle.history_model.proofs.FileImageLaws.{past_nodes}
 use Rattle.history_laws.specs.WorkedSession.{volume_as_made, new_image}
 
 -- the blocks and the sectors of the image
-abbrev blocks_there : Blocks
+abbrev pub blocks_there : Blocks
 blocks_there b = elim (nat_lt b 99) [ true ↦ volume_as_made b | false ↦ [] ]
 
 abbrev sectors_there : ℕ → List ℕ
@@ -82,7 +82,7 @@ pub length_there : length new_image ≡ 405504
 unfolding new_image
 length_there = length-blocks volume_as_made 0 99 all_whole
 
-block_there : block new_image ≡ blocks_there
+pub block_there : block new_image ≡ blocks_there
 unfolding new_image
 block_there = λ t b. at_block b (cases_lt b 99) t where
   at_block : (b : ℕ) → (b < 99) ⊎ (99 ≤ b) → block (flat_map volume_as_made (range_with_len 0 99)) b ≡ blocks_there b

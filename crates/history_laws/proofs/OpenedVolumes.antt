@@ -44,7 +44,7 @@ bytes_of_new g h owners home Published address = refl
 bytes_of_new g h owners home Sealed address = refl
 bytes_of_new g h owners home Running address = refl
 
-content_of_new : (g : Geometry) (h : Header) (owners : ℕ → Owner) (home : Image) (v : Version) → content_of g (new_journal h owners) v home ≡ home
+pub content_of_new : (g : Geometry) (h : Header) (owners : ℕ → Owner) (home : Image) (v : Version) → content_of g (new_journal h owners) v home ≡ home
 content_of_new g h owners home v =
     let txs : List Tx = txs_of g (new_journal h owners) v in
     ext_get_or 0 (replayed home txs) home (length-replayed home txs) (λ i below.

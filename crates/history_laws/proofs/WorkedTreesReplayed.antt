@@ -21,7 +21,7 @@ use Rattle.history_model.proofs.NodeLaws.{with_node-other, on_node-other}
 use Rattle.history_laws.specs.WorkedSession.{Times, letters, five_entries, committed_at, tree_with_directory, lettered_file, tree_with_letters, tree_at}
 
 -- the inode that an edit changes
-abbrev at_edit : Edit → ℕ
+abbrev pub at_edit : Edit → ℕ
 at_edit (Make i node) = i
 at_edit (Drop i) = i
 at_edit (Enter dir name i) = dir
@@ -44,21 +44,21 @@ edit_elsewhere (SetAttributes i a) tree k other = on_node-other tree i k (with_a
 edit_elsewhere (SetTime i moment) tree k other = on_node-other tree i k (with_time moment) other
 edit_elsewhere (SetFile i file) tree k other = with_node-other tree i k (Some (File file)) other
 
-all_elsewhere : (edits : List Edit) (tree : Tree) (k : ℕ) → AllByRecursion (λ e. k ≢ at_edit e) edits → edited_all edits tree k ≡ tree k
+pub all_elsewhere : (edits : List Edit) (tree : Tree) (k : ℕ) → AllByRecursion (λ e. k ≢ at_edit e) edits → edited_all edits tree k ≡ tree k
 all_elsewhere [] tree k others = refl
 all_elsewhere (edit ∷ edits) tree k others = all_elsewhere edits (edited edit tree) k others.1 ∙ edit_elsewhere edit tree k others.0
 
 -- the edits of the four calls that change the tree
-abbrev of_mkdir : List Edit
+abbrev pub of_mkdir : List Edit
 of_mkdir = Make 3 (new_subdirectory first_caller 0x1ed 1000 3 2) ∷ (Enter 2 (codes "d") 3 ∷ (SetTime 2 1000 ∷ []))
 
-abbrev of_rmdir : List Edit
+abbrev pub of_rmdir : List Edit
 of_rmdir = TakeOut 2 (codes "d") ∷ (SetTime 2 1000 ∷ (Drop 3 ∷ []))
 
-abbrev of_create : List Edit
+abbrev pub of_create : List Edit
 of_create = Make 3 (new_file first_caller 0x1a4 1000) ∷ (Enter 2 (codes "f") 3 ∷ (SetTime 2 1000 ∷ []))
 
-abbrev of_write : List Edit
+abbrev pub of_write : List Edit
 of_write = SetFile 3 (written (record { attributes = with_rights 0x1a4; size = 0; blocks = []; pointers = [] }) 0 letters) ∷ (SetTime 3 1000 ∷ [])
 
 by_edits : (when : ℕ → Times) → replay_of smallest 1000 new_tree (five_entries when) 1 ≡ edited_all of_mkdir new_tree

@@ -1,0 +1,14 @@
+pub mod RolesSeen
+pub mod MovedRoles
+pub mod MergedAll
+pub mod MovedDeltas
+pub mod MadeBy
+pub mod StepsOfChanges
+pub mod ReadsStay
+pub mod AmendedDeltas
+pub mod AmendedRecords
+pub mod VolumesOfChanges
+pub mod WritesFirst
+pub mod OpenedRead
+pub mod DraftsMade
+pub mod FilledBlocks

@@ -1,0 +1,5 @@
+pub mod FourChanges
+pub mod Stages
+pub mod FiveEntries
+pub mod Journals
+pub mod BlockUsedAgain

@@ -1,0 +1,6 @@
+//! A whole small session, built step by step (`docs/DEFINITIONS.md`).
+#![tactic(auto)]
+
+mod built;
+
+pub use built::block_used_again;
