@@ -28,7 +28,7 @@ pub struct PlainStore {
 }
 
 impl PlainStore {
-    ghost use Rattle.std.specs.Prelude.{◌≡◌, ◌≤◌, ◌*◌, [], length};
+    ghost use Rattle.std.specs.Prelude.{◌≡◌, ◌≤◌, ◌*◌, [], length, Some};
     ghost use Rattle.lufs_base.specs.Layout.{IsGeometry, blocks_of};
     ghost use Rattle.meta_store.specs.Store.{plain_told};
     ghost use Rattle.meta_store.specs.Plain.{plain_changing};
@@ -48,6 +48,13 @@ impl PlainStore {
             taken: Vec::new(alloc),
             freed: Vec::new(alloc),
         }
+    }
+
+    /// The image as it is now. A store made of it holds the same, and its transaction holds nothing yet.
+    pub fn into_image(self) -> Vec<u8>
+        ensures { (⟦<PlainStore as MetaRead>⟧.store self).content ≡ Some result.items }
+    {
+        self.image
     }
 }
 
