@@ -18,6 +18,3 @@ pub use entered::enter;
 pub use listing::entries;
 pub use search::{is_empty, lookup};
 pub use space::{Room, can_enter};
-
-#[cfg(test)]
-mod tests;

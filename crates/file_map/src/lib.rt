@@ -21,8 +21,3 @@ pub use laws::mapped_bytes;
 pub use mapped::map;
 pub use needed::{Needed, blocks_needed};
 pub use sizes::cut;
-
-#[cfg(test)]
-mod drop_tests;
-#[cfg(test)]
-mod tests;

@@ -20,6 +20,3 @@ mod verdict;
 mod window;
 
 pub use verdict::check;
-
-#[cfg(test)]
-mod tests;

@@ -7,6 +7,3 @@ mod laws;
 
 pub use draft::Draft;
 pub use laws::{drafted_block, merged_bytes, merged_laid};
-
-#[cfg(test)]
-mod tests;

@@ -24,6 +24,3 @@ pub use plain::PlainStore;
 pub use read::MetaRead;
 pub use replayed::ReplayedDisk;
 pub use store::MetaStore;
-
-#[cfg(test)]
-mod tests;

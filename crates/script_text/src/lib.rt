@@ -16,6 +16,3 @@ pub use history::{history_text, session_text};
 pub use lines::read_line;
 pub use replies::{is_short, reply_text};
 pub use script::{LinesError, ScriptLines, lines_of};
-
-#[cfg(test)]
-mod tests;

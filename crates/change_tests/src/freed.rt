@@ -1,8 +1,8 @@
 //! A directory and a file, freed with their blocks in a draft.
 ghost use Rattle.std.specs.Prelude.{◌≡◌, length, IfOk};
 
-use crate::drop_inode;
 use cyl_groups::{Group, set};
+use file_map::drop_inode;
 use lufs_base::{BlockNo, DeltaKind, DiskFault, Geometry, Ino, Mem};
 use meta_draft::Draft;
 use meta_store::{MetaRead, PlainStore, StoreError};

@@ -1,27 +1,15 @@
 //! A file with holes, direct blocks and a pointer block, read through a draft.
-ghost use Rattle.std.specs.Prelude.{◌≡◌, ◌≤◌, ◌+◌, length, IfOk};
+ghost use Rattle.std.specs.Prelude.{◌≤◌, ◌+◌};
 ghost use Rattle.history_model.specs.FileBytes.{greatest_size};
 
-use crate::{attach, blocks_needed, cut, map};
-use lufs_base::{BlockNo, Geometry, Ino, Mem};
+use crate::volume::{SMALLEST, Words, image_of};
+use file_map::{attach, blocks_needed, cut, map};
+use lufs_base::{BlockNo, Ino};
 use meta_draft::Draft;
 use meta_store::{LaidDeltas, PlainStore, ReplayedDisk, StoreError};
 use sector_disk::{Disk, Fail, MemDisk};
 use std::alloc::Global;
 use volume_model::TxList;
-
-/// A volume of 99 blocks: inode block 36, and body blocks from 37 on.
-const SMALLEST: Geometry = Geometry {
-    version: 1,
-    groups: 1,
-    bpg: 64,
-    ipg: 32,
-    log: 256,
-};
-
-/// Numbers of 32 bits that stand in a block, from one place on: the block, which of its numbers the first of
-/// them is, and the numbers. The record of inode i begins with number 32 * i of the inode block.
-type Words<'a> = (u32, u32, &'a [u32]);
 
 /// Inode 3 is a file of 14 blocks: at 0 block 38, at 11 block 39, and at 13 block 41, by pointer block 40. Inode 4 is
 /// a file of one byte, in block 42, inode 5 an empty one, and inode 6 one of 14 blocks that are all holes.
@@ -51,37 +39,10 @@ type Cut<'a> = (u32, u64, &'a [(u32, bool)], u32, Option<u32>);
 /// What is asked and answered of bytes: the inode, the first byte, how many, the indexes, and the pointer blocks.
 type Lacks<'a> = (u32, u64, u64, &'a [u32], u32);
 
-// Puts the numbers into the image, as far as it goes.
-fn put(image: &mut [u8], words: &Words) {
-    let (block, first, numbers) = *words;
-    let mut at = 4096 * block as usize + 4 * first as usize;
-    for number in numbers {
-        for byte in number.to_be_bytes() {
-            if let Some(place) = image.get_mut(at) {
-                *place = byte;
-            }
-            at = at.saturating_add(1);
-        }
-    }
-}
-
-fn image_of(alloc: Global) -> Result<Vec<u8>, Mem>
-    ensures { IfOk result (λ image. length image.items ≡ 405504) }
-{
-    let mut image = vec![in alloc; 0u8; 405_504]?;
-    for words in MADE {
-        put(&mut image, words);
-    }
-    if image.len() != 405_504 {
-        return Err(Mem);
-    }
-    Ok(image)
-}
-
 #[test]
 fn blocks_mapped(rt: HostRuntime) -> Result<(), std::test::Fail> {
     let alloc = rt.alloc();
-    let mut store = PlainStore::new(&SMALLEST, image_of(alloc)?);
+    let mut store = PlainStore::new(&SMALLEST, image_of(alloc, MADE)?);
     let draft = Draft::new(alloc);
     let cases: [Mapped; 9] = [
         (3, 0, Some(38)),
@@ -108,7 +69,7 @@ fn blocks_mapped(rt: HostRuntime) -> Result<(), std::test::Fail> {
 #[test]
 fn blocks_lacking(rt: HostRuntime) -> Result<(), std::test::Fail> {
     let alloc = rt.alloc();
-    let mut store = PlainStore::new(&SMALLEST, image_of(alloc)?);
+    let mut store = PlainStore::new(&SMALLEST, image_of(alloc, MADE)?);
     let draft = Draft::new(alloc);
     let cases: [Lacks; 7] = [
         (3, 0, 8193, &[1, 2], 0),
@@ -136,7 +97,7 @@ fn blocks_lacking(rt: HostRuntime) -> Result<(), std::test::Fail> {
 #[test]
 fn blocks_attached(rt: HostRuntime) -> Result<(), std::test::Fail> {
     let alloc = rt.alloc();
-    let mut store = PlainStore::new(&SMALLEST, image_of(alloc)?);
+    let mut store = PlainStore::new(&SMALLEST, image_of(alloc, MADE)?);
     let cases: [Attached; 5] = [
         (3, 1, &[], 2),
         (3, 12, &[], 14),
@@ -171,7 +132,7 @@ fn blocks_attached(rt: HostRuntime) -> Result<(), std::test::Fail> {
 #[test]
 fn files_cut(rt: HostRuntime) -> Result<(), std::test::Fail> {
     let alloc = rt.alloc();
-    let mut store = PlainStore::new(&SMALLEST, image_of(alloc)?);
+    let mut store = PlainStore::new(&SMALLEST, image_of(alloc, MADE)?);
     let cases: [Cut; 8] = [
         (3, 61440, &[], 13, Some(41)),
         (3, 57343, &[], 13, Some(41)),
@@ -208,7 +169,7 @@ fn files_cut(rt: HostRuntime) -> Result<(), std::test::Fail> {
 
 // The block at an index of inode 3, where these calls of the disk fail.
 fn mapped_after(alloc: Global, index: u32, fails: &[Fail]) -> Result<Option<BlockNo>, StoreError> {
-    let disk = MemDisk::new(image_of(alloc)?, Vec::from_slice(alloc, fails)?);
+    let disk = MemDisk::new(image_of(alloc, MADE)?, Vec::from_slice(alloc, fails)?);
     let laid = LaidDeltas::new(alloc, &TxList::new(alloc))?;
     if disk.sectors() < 792 {
         return Err(StoreError::Mem);

@@ -1,27 +1,15 @@
 //! Tests: a directory of three chunks, one of eight, and one that is empty, read through a draft.
 ghost use Rattle.std.specs.Prelude.{◌≡◌, length, IfOk};
 
-use crate::{Room, can_enter, enter, entries, is_empty, lookup, remove, replace, set_parent};
-use lufs_base::{BlockNo, Geometry, Ino, Mem, Name};
+use crate::volume::{self, SMALLEST, Words, put};
+use dir_ops::{Room, can_enter, enter, entries, is_empty, lookup, remove, replace, set_parent};
+use lufs_base::{BlockNo, Ino, Mem, Name};
 use meta_draft::Draft;
 use meta_store::{LaidDeltas, PlainStore, ReplayedDisk, StoreError};
 use sector_disk::{Disk, Fail, MemDisk};
 use std::alloc::Global;
 use tree_types::NameList;
 use volume_model::TxList;
-
-/// A volume of 99 blocks: inode block 36, and body blocks from 37 on.
-const SMALLEST: Geometry = Geometry {
-    version: 1,
-    groups: 1,
-    bpg: 64,
-    ipg: 32,
-    log: 256,
-};
-
-/// Numbers of 32 bits that stand in a block, from one place on: the block, which of its numbers the first of
-/// them is, and the numbers. The record of inode i begins with number 32 * i of the inode block.
-type Words<'a> = (u32, u32, &'a [u32]);
 
 /// The root, inode 2, has block 37 and three chunks: one with `.`, `..`, an unused slot and `b`, one that is a slot of
 /// `long`, and one with `a`. Inode 3 is a directory with block 38 and one chunk, in which only itself and the root
@@ -58,20 +46,6 @@ type Roomy = (u32, usize, Room);
 
 type Listed<'a> = (u32, Option<&'a [u8]>, u32, &'a [&'a [u8]], bool);
 
-// Puts the numbers into the image, as far as it goes.
-fn put(image: &mut [u8], words: &Words) {
-    let (block, first, numbers) = *words;
-    let mut at = 4096 * block as usize + 4 * first as usize;
-    for number in numbers {
-        for byte in number.to_be_bytes() {
-            if let Some(place) = image.get_mut(at) {
-                *place = byte;
-            }
-            at = at.saturating_add(1);
-        }
-    }
-}
-
 // The slots of the chunks of inode 5 after the first, each of 256 bytes, named `c` to `p`.
 fn put_chunks(image: &mut [u8]) {
     for k in 2u32..16 {
@@ -79,17 +53,12 @@ fn put_chunks(image: &mut [u8]) {
     }
 }
 
+// The volume with these directories.
 fn image_of(alloc: Global) -> Result<Vec<u8>, Mem>
     ensures { IfOk result (λ image. length image.items ≡ 405504) }
 {
-    let mut image = vec![in alloc; 0u8; 405_504]?;
-    for words in MADE {
-        put(&mut image, words);
-    }
+    let mut image = volume::image_of(alloc, MADE)?;
     put_chunks(&mut image);
-    if image.len() != 405_504 {
-        return Err(Mem);
-    }
     Ok(image)
 }
 

@@ -1,6 +1,8 @@
 //! Lines, replies and a history, by the examples of `docs/SCRIPTS.md`.
-use crate::{LinesError, history_text, is_short, lines_of, read_line, reply_text, session_text};
 use lufs_base::{Bytes, Epoch, Name};
+use script_text::{
+    LinesError, history_text, is_short, lines_of, read_line, reply_text, session_text,
+};
 use std::process::Abort;
 use std::test::Fail;
 use tree_types::{

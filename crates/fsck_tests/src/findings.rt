@@ -1,7 +1,7 @@
 //! Tests: volumes of 99 blocks, sound and with each rule broken, and reads that fail.
 ghost use Rattle.std.specs.Prelude.{◌≡◌, length, IfOk};
 
-use crate::check;
+use fsck_core::check;
 use lufs_base::{Geometry, Mem};
 use meta_store::{LaidDeltas, PlainStore, ReplayedDisk, StoreError};
 use sector_disk::{Disk, Fail, MemDisk};

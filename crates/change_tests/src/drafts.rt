@@ -1,10 +1,10 @@
 //! What is read with a change, and which deltas it holds.
 ghost use Rattle.std.specs.Prelude.{◌≡◌, length, IfOk};
 
-use crate::Draft;
 use cyl_groups::Group;
 use dir_blocks::Chunk;
 use lufs_base::{BLOCK, BlockNo, Bytes, DeltaKind, DiskFault, Geometry, Ino, Mem};
+use meta_draft::Draft;
 use meta_store::{Freed, MetaRead, PlainStore, RawWrite};
 use std::alloc::Global;
 use std::test::Fail;
