@@ -1,4 +1,4 @@
-//! Tests of the crates below the calls: stores, drafts, directories and files. They stand in a crate of their own,
+//! Tests of the crates below the calls: drafts, directories and files. They stand in a crate of their own,
 //! since a crate with tests is proved twice (`CONTRIBUTING.md`).
 #![tactic(auto)]
 
@@ -10,7 +10,5 @@ mod drafts;
 mod files;
 #[cfg(test)]
 mod freed;
-#[cfg(test)]
-mod stores;
 #[cfg(test)]
 mod volume;

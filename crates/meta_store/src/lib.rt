@@ -24,3 +24,6 @@ pub use plain::PlainStore;
 pub use read::MetaRead;
 pub use replayed::ReplayedDisk;
 pub use store::MetaStore;
+
+#[cfg(test)]
+mod tests;

@@ -4,11 +4,11 @@ ghost use Rattle.volume_model.specs.Worked.{smallest};
 ghost use Rattle.meta_store.specs.Laid.{IsWithinBlock};
 ghost use Rattle.meta_store.specs.Worked.{record_with, taking};
 
+use crate::{
+    Change, LaidDeltas, MetaRead, MetaStore, PlainStore, ReplayedDisk, StoreError, merged,
+};
 use lufs_base::{
     BLOCK, BlockNo, Bytes, Delta, DeltaKind, DeltaList, DiskFault, Geometry, Mem, are_zeros,
-};
-use meta_store::{
-    Change, LaidDeltas, MetaRead, MetaStore, PlainStore, ReplayedDisk, StoreError, merged,
 };
 use sector_disk::{Disk, Fail, MemDisk, SureDisk};
 use std::alloc::Global;
