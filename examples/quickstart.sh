@@ -1,8 +1,8 @@
 #!/bin/sh
-# Runs the examples of README.md in a new folder: makes, checks and lists an empty volume, and looks at three
-# volumes that a crash may leave. It takes the built program where there is one. Else rt try compiles one, with
-# no proof, and what the toolchain says goes to a file. What is printed is commands with their output, and lines
-# that begin with #.
+# Runs the examples of README.md in a new folder: makes a volume, runs a script of file system calls on it, shows the
+# replies and the history, checks and lists it, and looks at three volumes that a crash may leave. It takes the built
+# program where there is one. Else rt try compiles one, with no proof, and what the toolchain says goes to a file. What
+# is printed is commands with their output, and lines that begin with #.
 set -eu
 
 examples=$(cd "$(dirname "$0")" && pwd)
@@ -11,8 +11,11 @@ folder=$(mktemp -d)
 trap 'rm -rf "$folder"; exit 1' INT TERM
 cd "$folder"
 
-# What lufs is run with, a run a line.
+# What is run, a line each: lufs with these words, and cat of a file.
 runs='mkfs volume 1 64 32 256
+drive volume turns tree
+cat tree.out
+cat volume.history
 check volume
 scan volume
 scan committed
@@ -21,19 +24,30 @@ scan cut
 check cut
 check unlogged'
 
-# One word a line, the volume with its folder: rt try runs the program in another one.
+# One word a line, each file with its folder: rt try runs the program in another one.
 words() {
     # shellcheck disable=SC2086
-    printf '%s\n' $1 | sed "2s|^|$folder/|"
+    printf '%s\n' $1 | sed -E "2,\$s|^([a-z].*)|$folder/\\1|"
 }
 
 "$examples/crashed.sh"
+cp "$examples/tree.script" tree
+# Each 0 is a turn of the script: four for a line that may change the tree, two for another one.
+printf 000000000000000000000000000000 >turns
 if [ -x "$crate/out/lufs" ]; then
     echo "# the built program: $crate/out/lufs"
     printf '%s\n' "$runs" | while read -r run; do
-        printf '\n$ lufs %s\n' "$run"
-        # shellcheck disable=SC2086
-        "$crate/out/lufs" $run || echo "# status $?"
+        case $run in
+        cat*)
+            printf '\n$ %s\n' "$run"
+            $run
+            ;;
+        *)
+            printf '\n$ lufs %s\n' "$run"
+            # shellcheck disable=SC2086
+            "$crate/out/lufs" $run || echo "# status $?"
+            ;;
+        esac
     done
 else
     echo "# No program is built yet, so rt try compiles one without proof. That takes half a minute or more."
@@ -41,8 +55,13 @@ else
     number=10
     printf '%s\n' "$runs" | while read -r run; do
         number=$((number + 1))
-        : >"cases/$number"
-        words "$run" >"cases/$number.args"
+        case $run in
+        cat*) ;;
+        *)
+            : >"cases/$number"
+            words "$run" >"cases/$number.args"
+            ;;
+        esac
     done
     if ! (cd "$crate" && rt try --cases "$folder/cases") >output 2>toolchain; then
         echo "# rt try failed; what it said is in $folder/toolchain" >&2
@@ -51,9 +70,17 @@ else
     number=10
     printf '%s\n' "$runs" | while read -r run; do
         number=$((number + 1))
-        printf '\n$ lufs %s\n' "$run"
-        awk -v name="== $number" '/^== / { on = $0 == name; next } on' output
-        sed -n "s/^case=$number .*status=\([1-9][0-9]*\) .*/# status \1/p" toolchain
+        case $run in
+        cat*)
+            printf '\n$ %s\n' "$run"
+            $run
+            ;;
+        *)
+            printf '\n$ lufs %s\n' "$run"
+            awk -v name="== $number" '/^== / { on = $0 == name; next } on' output
+            sed -n "s/^case=$number .*status=\([1-9][0-9]*\) .*/# status \1/p" toolchain
+            ;;
+        esac
     done
 fi
 rm -rf "$folder"
