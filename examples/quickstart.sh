@@ -11,11 +11,11 @@ folder=$(mktemp -d)
 trap 'rm -rf "$folder"; exit 1' INT TERM
 cd "$folder"
 
-# What is run, a line each: lufs with these words, and cat of a file.
+# What is run, a line each: lufs with these words, or a look at a file.
 runs='mkfs volume 1 64 32 256
 drive volume turns tree
 cat tree.out
-cat volume.history
+head -3 volume.history
 check volume
 scan volume
 scan committed
@@ -38,7 +38,7 @@ if [ -x "$crate/out/lufs" ]; then
     echo "# the built program: $crate/out/lufs"
     printf '%s\n' "$runs" | while read -r run; do
         case $run in
-        cat*)
+        cat* | head*)
             printf '\n$ %s\n' "$run"
             $run
             ;;
@@ -56,7 +56,7 @@ else
     printf '%s\n' "$runs" | while read -r run; do
         number=$((number + 1))
         case $run in
-        cat*) ;;
+        cat* | head*) ;;
         *)
             : >"cases/$number"
             words "$run" >"cases/$number.args"
@@ -71,7 +71,7 @@ else
     printf '%s\n' "$runs" | while read -r run; do
         number=$((number + 1))
         case $run in
-        cat*)
+        cat* | head*)
             printf '\n$ %s\n' "$run"
             $run
             ;;
