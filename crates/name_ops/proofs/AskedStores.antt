@@ -1,5 +1,5 @@
 -- What is asked of a store, by the tree that its content stands for.
-use Rattle.std.proofs.Common.{◌≡◌, ℕ, ◌*◌, Bool, true, false, List, [], length, Option, Some, None, IfSome, refl, sym, ap, ◌∙◌, subst}
+use Rattle.std.proofs.Common.{◌≡◌, ℕ, ◌*◌, Bool, true, false, List, [], length, Option, Some, None, IfSome, sym, ap, ◌∙◌, subst}
 use Rattle.std.specs.Prelude.{IsSomeAnd}
 use Rattle.std.specs.Option.{option_map, option_map_or}
 use Rattle.std.proofs.lemmas.Bool.{false≢true}
@@ -11,7 +11,7 @@ use Rattle.volume_model.specs.Sound.{reading_of, has_bad_numbers, Node, File, Di
 use Rattle.volume_laws.proofs.SoundParts.{in_parts}
 use Rattle.tree_types.specs.declared.credentials.Cred.{Cred}
 use Rattle.tree_types.specs.declared.reply.Refusal.{Refusal}
-use Rattle.history_model.specs.Places.{permits_on, may, is_directory_node, is_directory_in, chunks_of_node, chunks_in}
+use Rattle.history_model.specs.Places.{permits_on, may, is_directory_node, is_directory_in, chunks_of_node}
 use Rattle.meta_store.specs.declared.change.Change.{Change}
 use Rattle.meta_store.specs.Changes.{changed}
 use Rattle.meta_store.specs.NoChange.{no_change}

@@ -9,7 +9,7 @@ use Rattle.history_model.specs.Places.{is_directory_in, may}
 use Rattle.history_model.specs.Walk.{WalkEnd, first_of}
 use Rattle.history_model.specs.Ends.{One}
 use Rattle.history_model.specs.Wants.{wants_at, nothing}
-use Rattle.history_model.specs.Refusals.{Decision, Refuse, Proceed, on_found, decision_at}
+use Rattle.history_model.specs.Refusals.{Decision, Refuse, Unchanged, Proceed, on_found, decision_at}
 use Rattle.name_ops.specs.Asked.{asked}
 use Rattle.name_ops.specs.declared.wanted.Wanted.{Wanted}
 use Rattle.name_ops.specs.declared.wanted.Wanted.TheVariants.{Refused, Wants}
@@ -17,6 +17,11 @@ use Rattle.name_ops.specs.declared.wanted.Wanted.TheVariants.{Refused, Wants}
 -- the decision by the tests of the refusals
 abbrev by_tests : (may directory : Bool) → Decision
 by_tests m d = first_of ((not m, Refuse Denied) ∷ ((d, Refuse Isdir) ∷ [])) Proceed
+
+never_unchanged : (m d : Bool) → by_tests m d ≡ Unchanged → ⊥
+never_unchanged false d is = let is_not : Refuse Denied ≡ Unchanged = is in cc
+never_unchanged true true is = let is_not : Refuse Isdir ≡ Unchanged = is in cc
+never_unchanged true false is = let is_not : Proceed ≡ Unchanged = is in cc
 
 module _ (g : Geometry) (tree : Tree) (cred : Cred) (path : List ℕ) (p : WalkEnd) where
   abbrev pub decision : Decision
@@ -51,16 +56,10 @@ module _ (g : Geometry) (tree : Tree) (cred : Cred) (path : List ℕ) (p : WalkE
     pub wants : m ≡ true → is_directory_in tree i ≡ false → Wants false [] 0 ≡ answer
     wants right plain = sym (ap (λ (x : Decision). asked x nothing) (allowed right ∙ ap (by_tests true) plain))
 
-  -- one that wants something is carried out
-  goes_by : (found : Option ℕ) (right : Bool) (test : ℕ → Bool) (d : Decision) (inode : Bool) (fresh : List ℕ) (others : ℕ)
-      → d ≡ first_of (on_found found (λ i. (not right, Refuse Denied) ∷ ((test i, Refuse Isdir) ∷ []))) Proceed → Wants inode fresh others ≡ asked d nothing → d ≡ Proceed
-  goes_by None right test d inode fresh others by is = absurd (let e : Wants inode fresh others ≡ Refused Noent = is ∙ ap (λ (x : Decision). asked x nothing) by in cc)
-  goes_by (Some i) false test d inode fresh others by is = absurd (let e : Wants inode fresh others ≡ Refused Denied = is ∙ ap (λ (x : Decision). asked x nothing) by in cc)
-  goes_by (Some i) true test d inode fresh others by is = by_kind (test i) by
+  -- one that isn't refused changes something
+  pub changes : decision ≡ Unchanged → ⊥
+  changes same = by_name p.found refl
     where
-      by_kind : (b : Bool) → d ≡ by_tests true b → d ≡ Proceed
-      by_kind true refuses = absurd (let e : Wants inode fresh others ≡ Refused Isdir = is ∙ ap (λ (x : Decision). asked x nothing) refuses in cc)
-      by_kind false goes = goes
-
-  pub goes : (inode : Bool) (fresh : List ℕ) (others : ℕ) → Wants inode fresh others ≡ answer → decision ≡ Proceed
-  goes inode fresh others is = goes_by p.found m (is_directory_in tree) decision inode fresh others (tested p.found refl) is
+      by_name : (found : Option ℕ) → p.found ≡ found → ⊥
+      by_name None none = let is_not : Refuse Noent ≡ Unchanged = sym (not_found none) ∙ same in cc
+      by_name (Some i) found = never_unchanged m (is_directory_in tree i) (sym (tested (Some i) found) ∙ same)

@@ -1,5 +1,5 @@
 -- What a draft is after an inode lost a link in its record.
-use Rattle.std.proofs.Common.{◌≡◌, ◌<◌, ◌≤◌, ◌-◌, inl, inr, ℕ, Bool, false, List, Option, Some, None, IfSome, refl, sym, ap, ◌∙◌, subst, arith}
+use Rattle.std.proofs.Common.{◌≡◌, ◌<◌, ◌≤◌, ◌+◌, ◌-◌, inl, inr, ℕ, Bool, false, List, Option, Some, None, IfSome, refl, sym, ap, ◌∙◌, subst, arith}
 use Rattle.std.specs.Prelude.{nat_lt}
 use Rattle.std.specs.Option.{option_map, option_and_then, option_flatten}
 use Rattle.std.proofs.lemmas.Bool.{cases_eq, ltb-false}
@@ -20,27 +20,27 @@ use Rattle.meta_store.specs.declared.change.Change.{Change}
 use Rattle.meta_store.specs.Changes.{changed}
 use Rattle.meta_draft.specs.Deltas.{inode_delta}
 use Rattle.meta_draft.specs.Drafted.{drafted_blocks, with_delta}
-use Rattle.draft_laws.specs.Drafts.{IsDraft, Draws}
+use Rattle.draft_laws.specs.Drafts.{IsDraft}
 use Rattle.draft_laws.proofs.RecordSteps.{attributes_drawn}
 use Rattle.name_ops.specs.LostNames.{HasLinkLess}
 
-no_record : (blocks : Blocks) (o : Option (Option Dinode)) → None ≡ option_flatten o → used_of (state_of blocks o) ≡ None
+pub no_record : (blocks : Blocks) (o : Option (Option Dinode)) → None ≡ option_flatten o → used_of (state_of blocks o) ≡ None
 no_record blocks None is = refl
 no_record blocks (Some None) is = refl
 no_record blocks (Some (Some d)) is = absurd (let e : None ≡ Some d = is in cc)
 
-its_record : (o : Option (Option Dinode)) (d : Dinode) → Some d ≡ option_flatten o → o ≡ Some (Some d)
+pub its_record : (o : Option (Option Dinode)) (d : Dinode) → Some d ≡ option_flatten o → o ≡ Some (Some d)
 its_record None d is = absurd (let e : Some d ≡ None = is in cc)
 its_record (Some None) d is = absurd (let e : Some d ≡ None = is in cc)
 its_record (Some (Some e)) d is = ap (λ (o : Option Dinode). Some o) (sym is)
 
 -- a node with its own attributes, and a tree with its own node
-same_attributes : (node : Node) → with_attributes (attributes_of_node node) node ≡ node
+pub same_attributes : (node : Node) → with_attributes (attributes_of_node node) node ≡ node
 same_attributes (File file) = refl
 same_attributes (Directory directory) = refl
 same_attributes (Link link) = refl
 
-same_tree : (tree : Tree) (i : ℕ) (node : Option Node) → tree i ≡ node → with_node tree i node ≡ tree
+pub same_tree : (tree : Tree) (i : ℕ) (node : Option Node) → tree i ≡ node → with_node tree i node ≡ tree
 same_tree tree i node is = λ t k. at k t
   where
     at : (k : ℕ) → with_node tree i node k ≡ tree k
@@ -105,6 +105,11 @@ module _ (g : Geometry) (base : Image) (taken : ℕ → Bool) (old : Change) (ha
         own_links = draws.own_links ∙ sym (ap (λ (o : Option UsedInode). option_map (λ links. links - 1) (option_map (λ v. v.inode.links) o)) used);
         others = draws.others;
       }
+
+-- the links of a record with one less
+pub one_less : (o : Option ℕ) (before now : ℕ) → now + 1 ≡ before → IfSome o (λ links. links ≡ before) → IfSome (option_map (λ links. links - 1) o) (λ links. links ≡ now)
+one_less None before now is links = tt
+one_less (Some n) before now is links = omega (arith, is, links)
 
 -- of each draft of the content that is told
 abbrev pub LosesInDrafts : Option Image → Geometry → (old new : Change) → (i : ℕ) → Type 0

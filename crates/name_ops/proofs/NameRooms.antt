@@ -1,11 +1,11 @@
 -- How many blocks a directory wants for a name, by where it has room.
-use Rattle.std.proofs.Common.{◌≡◌, ◌≢◌, ◌<◌, ◌≤◌, inl, inr, ℕ, ◌+◌, ◌-◌, ◌*◌, ◌/◌, ◌%◌, ◌==◌, Bool, true, false, not, ◌&&◌, if◌then◌else◌, List, length, Option, Some, None, IfSome, refl, sym, ap, ◌∙◌, subst, arith}
-use Rattle.std.specs.Prelude.{nat_le, nat_lt}
-use Rattle.std.proofs.lemmas.Bool.{cases_Bool, cases_eq, cases_lt, eq-eqb, ne_eqb, eqb-true, eqb-false, lt-ltb, le-ltb, leb-false, cond-true, cond-false}
+use Rattle.std.proofs.Common.{◌≡◌, ◌≢◌, ◌<◌, ◌≤◌, inl, inr, ℕ, ◌+◌, ◌-◌, ◌*◌, ◌/◌, ◌==◌, Bool, true, false, if◌then◌else◌, List, length, Some, None, refl, sym, ap, ◌∙◌, arith}
+use Rattle.std.specs.Prelude.{nat_lt}
+use Rattle.std.proofs.lemmas.Bool.{cases_eq, cases_lt, eq-eqb, ne_eqb, lt-ltb, le-ltb}
 use Rattle.volume_model.specs.Sound.{Tree, directory_blocks}
 use Rattle.history_model.specs.Places.{chunks_in}
-use Rattle.history_model.specs.Refusals.{most_chunks, cannot_grow}
-use Rattle.history_model.specs.Wants.{has_no_room, blocks_for_name}
+use Rattle.history_model.specs.Refusals.{cannot_grow}
+use Rattle.history_model.specs.Wants.{has_no_room}
 use Rattle.dir_ops.specs.Rooms.{room_for}
 use Rattle.dir_ops.specs.declared.space.Room.TheVariants.{Fits, NewChunk, NewBlock, Past}
 use Rattle.name_ops.specs.Asked.{name_blocks, blocks_by}

@@ -1,5 +1,5 @@
--- The plan of a call that makes no inode and answers no more than that it is done.
-use Rattle.std.proofs.Common.{◌≡◌, ◌≤◌, ℕ, ◌*◌, Bool, true, false, List, [], ◌∷◌, Option, Some, None, Result, Ok, refl, sym, ap, ◌∙◌}
+-- The plan of a call that answers no more than that it is done.
+use Rattle.std.proofs.Common.{◌≡◌, ◌≤◌, ℕ, ◌*◌, true, false, List, [], ◌∷◌, Some, None, Result, Ok, refl, sym, ap, ◌∙◌}
 use Rattle.std.proofs.lemmas.Bool.{true≢false}
 use Rattle.lufs_base.specs.Layout.{IsGeometry, blocks_of}
 use Rattle.lufs_base.specs.declared.geometry.Geometry.{Geometry}
@@ -10,13 +10,12 @@ use Rattle.volume_laws.proofs.SoundParts.{in_parts}
 use Rattle.tree_types.specs.declared.credentials.Cred.{Cred}
 use Rattle.tree_types.specs.declared.call.Call.{Call}
 use Rattle.tree_types.specs.declared.reply.Refusal.{Refusal}
-use Rattle.tree_types.specs.declared.reply.Reply.{Reply}
 use Rattle.tree_types.specs.declared.reply.Reply.TheVariants as reply
 use Rattle.history_model.specs.Ends.{WalkEnds, ends_of}
 use Rattle.history_model.specs.Wants as model
 use Rattle.history_model.specs.Refusals.{Decision, Refuse, Unchanged, Proceed, decision_at}
 use Rattle.history_model.specs.Replies.{reply_at, decided_reply, walked_reply, reply_of, tree_after}
-use Rattle.history_model.specs.Histories.{makes_inode}
+use Rattle.history_model.specs.Histories.{makes_inode, IsUsable}
 use Rattle.meta_store.specs.declared.change.Change.{Change}
 use Rattle.meta_store.specs.Changing.{AllTold}
 use Rattle.meta_store.specs.NoChange.{no_change}
@@ -58,13 +57,18 @@ module _ (told : AllTold) (image : Image) (tree : Tree) (cred : Cred) (call : Ca
   unchanged_tight = (held, draft_begun g image told.changing.is_taken held ok room stored, stored.apart.blocks_free)
 
   module _ (change : Change) (drawn : IsDrawn g image told.changing.is_taken change (tree_after g tree cred ino moment call) after) where
-    pub carried_planned : decision_at g tree cred call ends ≡ Proceed → reply_at g tree call ends ≡ reply.Done → makes_inode call ≡ false
+    -- a call that makes an inode was given one that is usable
+    pub done_planned : decision_at g tree cred call ends ≡ Proceed → reply_at g tree call ends ≡ reply.Done → (makes_inode call ≡ true → IsUsable g tree ino)
         → IsPlanned g image tree cred call ino moment after change reply.Done
-    carried_planned decided answer makes_none = record {
+    done_planned decided answer usable = record {
       replied = sym (replied_as g tree cred call ends Proceed may.walked decided ∙ answer);
       refused = λ why same. absurd (let e : reply.Done ≡ reply.Refused why = same in cc);
-      done = λ none. call_stands g image told.changing.is_taken change held after tree cred ino moment call may.stands (λ makes. absurd (true≢false (sym makes ∙ makes_none))) drawn;
+      done = λ none. call_stands g image told.changing.is_taken change held after tree cred ino moment call may.stands usable drawn;
     }
+
+    pub carried_planned : decision_at g tree cred call ends ≡ Proceed → reply_at g tree call ends ≡ reply.Done → makes_inode call ≡ false
+        → IsPlanned g image tree cred call ino moment after change reply.Done
+    carried_planned decided answer makes_none = done_planned decided answer (λ makes. absurd (true≢false (sym makes ∙ makes_none)))
 
     pub carried_tight : IsTight g image told.changing.is_taken change
     carried_tight = (after, drawn.draft, holds_none g image held after (held_inodes (hand ∷ [])) hand.blocks stored may.spent)

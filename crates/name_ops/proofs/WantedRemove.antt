@@ -1,25 +1,26 @@
 -- What a `remove` is answered that asks a store, where the content is told.
-use Rattle.std.proofs.Common.{◌≡◌, ℕ, Bool, true, false, not, List, [], Option, Some, None, IfSome, refl, sym, ap, ◌∙◌, subst}
+use Rattle.std.proofs.Common.{◌≡◌, ℕ, Bool, true, false, List, [], Option, Some, None, IfSome, refl, sym, ap, ◌∙◌, subst}
 use Rattle.std.specs.Prelude.{is_some}
-use Rattle.std.specs.Option.{option_map, option_map_or}
+use Rattle.std.specs.Option.{option_map_or}
 use Rattle.std.proofs.lemmas.Bool.{true≢false, false≢true}
 use Rattle.lufs_base.specs.declared.geometry.Geometry.{Geometry}
-use Rattle.lufs_base.specs.declared.numbers.Ino.{Ino}
 use Rattle.volume_model.specs.declared.hand.Hand.{Hand}
 use Rattle.volume_model.specs.declared.inode.Dinode.{Dinode}
 use Rattle.volume_model.specs.Format.{Image, block}
 use Rattle.volume_model.specs.Sound.{Node, Tree, StandsFor}
 use Rattle.tree_types.specs.declared.credentials.Cred.{Cred}
+use Rattle.tree_types.specs.declared.call.Call.{Call}
+use Rattle.tree_types.specs.declared.call.Call.TheVariants.{Remove}
 use Rattle.tree_types.specs.declared.reply.Refusal.TheVariants.{Noent, Denied, Isdir}
 use Rattle.history_model.specs.Places.{is_directory_node, is_directory_in, may}
 use Rattle.history_model.specs.Walk.{WalkEnd}
 use Rattle.inode_reads.specs.InodeOf.{IsInodeOf}
 use Rattle.name_ops.specs.Asked.{IsWritable}
-use Rattle.name_ops.specs.declared.wanted.Wanted.{Wanted}
 use Rattle.name_ops.specs.declared.wanted.Wanted.TheVariants.{Refused, Wants}
 use Rattle.name_ops.proofs.AskedStores.{IsReadByTree}
 use Rattle.name_ops.proofs.WantedCreate.{Writable}
-use Rattle.name_ops.proofs.DecidedRemove.{answer, noent, denied, isdir, wants}
+use Rattle.name_ops.proofs.OnePathPlans.{Answers}
+use Rattle.name_ops.proofs.DecidedRemove.{noent, denied, isdir, wants}
 
 -- whether inode i is a directory, of each tree
 abbrev pub IsKind : Option Image → Geometry → (i : ℕ) → Bool → Type 0
@@ -34,11 +35,10 @@ pub told_directory : (content : Option Image) (g : Geometry) (i : ℕ) (d : Dino
 told_directory None g i d is by_tree read tree hands = tt
 told_directory (Some image) g i d is by_tree read tree hands = λ stands. by_tree tree (read tree hands stands)
 
--- what is answered
-abbrev pub Answers : Option Image → Geometry → Cred → WalkEnd → Wanted → Type 0
-Answers content g cred p wanted = (tree : Tree) (hands : List Hand) (path : List ℕ) → IfSome content (λ image. StandsFor g (block image) tree hands → wanted ≡ answer g tree cred path p)
+abbrev pub remove : (path : List ℕ) → Call
+remove path = Remove path
 
-pub told_noent : (content : Option Image) (g : Geometry) (cred : Cred) (p : WalkEnd) → p.found ≡ None → Answers content g cred p (Refused Noent)
+pub told_noent : (content : Option Image) (g : Geometry) (cred : Cred) (p : WalkEnd) → p.found ≡ None → Answers remove content g cred p (Refused Noent)
 told_noent None g cred p none tree hands path = tt
 told_noent (Some image) g cred p none tree hands path = λ stands. noent g tree cred path p none
 
@@ -51,7 +51,7 @@ some_there None is = absurd (false≢true is)
 some_there (Some d) is = (d, refl)
 
 module _ (found : Option Dinode) (i : ℕ) where
-  pub told_denied : (content : Option Image) (g : Geometry) (cred : Cred) (p : WalkEnd) → p.found ≡ Some i → Writable content g cred p.dir found → is_some found ≡ false → Answers content g cred p (Refused Denied)
+  pub told_denied : (content : Option Image) (g : Geometry) (cred : Cred) (p : WalkEnd) → p.found ≡ Some i → Writable content g cred p.dir found → is_some found ≡ false → Answers remove content g cred p (Refused Denied)
   told_denied None g cred p is writable none tree hands path = tt
   told_denied (Some image) g cred p is writable none tree hands path = λ stands.
       denied g tree cred path p i is (subst (λ (o : Option Dinode). IsWritable g tree cred p.dir o) (none_there found none) (writable tree hands stands))
@@ -60,14 +60,14 @@ module _ (found : Option Dinode) (i : ℕ) where
   has_right g tree cred dir writable some = let d = some_there found some in (subst (λ (o : Option Dinode). IsWritable g tree cred dir o) d.1 writable).0
 
   pub told_isdir : (content now : Option Image) (g h : Geometry) (cred : Cred) (p : WalkEnd) → now ≡ content → h ≡ g → p.found ≡ Some i → Writable content g cred p.dir found → is_some found ≡ true
-      → (directory : Bool) → directory ≡ true → IsKind now h i directory → Answers content g cred p (Refused Isdir)
+      → (directory : Bool) → directory ≡ true → IsKind now h i directory → Answers remove content g cred p (Refused Isdir)
   told_isdir None now g h cred p same alike is writable some directory sure kind tree hands path = tt
   told_isdir (Some image) now g h cred p same alike is writable some directory sure kind tree hands path = λ stands.
       let here = subst (λ (k : Geometry). IsKind (Some image) k i directory) alike (subst (λ (c : Option Image). IsKind c h i directory) same kind) in
       isdir g tree cred path p i is (has_right g tree cred p.dir (writable tree hands stands) some) (sym (here tree hands stands) ∙ sure)
 
   pub told_wants : (content now : Option Image) (g h : Geometry) (cred : Cred) (p : WalkEnd) → now ≡ content → h ≡ g → p.found ≡ Some i → Writable content g cred p.dir found → is_some found ≡ true
-      → (directory : Bool) → directory ≡ false → IsKind now h i directory → Answers content g cred p (Wants false [] 0)
+      → (directory : Bool) → directory ≡ false → IsKind now h i directory → Answers remove content g cred p (Wants false [] 0)
   told_wants None now g h cred p same alike is writable some directory sure kind tree hands path = tt
   told_wants (Some image) now g h cred p same alike is writable some directory sure kind tree hands path = λ stands.
       let here = subst (λ (k : Geometry). IsKind (Some image) k i directory) alike (subst (λ (c : Option Image). IsKind c h i directory) same kind) in

@@ -1,3 +1,4 @@
 pub mod Asked
 pub mod NewRecords
 pub mod LostNames
+pub mod GainedNames

@@ -1,5 +1,5 @@
 //! What calls on names ask of a store.
-ghost use Rattle.std.specs.Prelude.{◌≡◌, true, List, Some, IfSome, IfOk, IsErrOf};
+ghost use Rattle.std.specs.Prelude.{◌≡◌, ◌≤◌, true, List, Some, IfSome, IfOk, IsErrOf};
 ghost use Rattle.volume_model.specs.declared.hand.Hand.{Hand};
 ghost use Rattle.volume_model.specs.Format.{block};
 ghost use Rattle.volume_model.specs.Sound.{Tree, StandsFor, free_inodes_of, free_blocks_of};
@@ -48,7 +48,8 @@ pub(crate) fn writable<S: MetaRead>(
 
 // How many blocks a directory of so many bytes wants, by where it has room; None where it can't have one chunk more.
 fn blocks_by(room: Room, size: u64) -> Option<u32>
-    ensures { result ≡ blocks_by room size }
+    ensures value { result ≡ blocks_by room size }
+    ensures few { IfSome result (λ blocks. blocks ≤ 2) }
 {
     match room {
         Room::Past => None,
@@ -73,6 +74,7 @@ pub(crate) fn name_blocks<S: MetaRead>(
 ) -> Result<Option<u32>, StoreError>
     ensures value { (tree : Tree) (hands : List Hand) → IfSome (S.store store.old).content (λ image. StandsFor (S.store store.old).geometry (block image) tree hands
         → IsInodeOf (S.store store.old).geometry tree dir.0 (Some d.now) → is_directory_in tree dir.0 ≡ true → IfOk result (λ blocks. blocks ≡ name_blocks tree dir.0 name.now)) }
+    ensures few { IfOk result (λ blocks. IfSome blocks (λ n. n ≤ 2)) }
     ensures unchanged { IsUnchanged (S.store store.old) (S.store store.new) }
     ensures kept { IsKept (S.changing store.old) (S.changing store.new) }
     ensures failure { FailsJustAt (IsErrOf result Disk) (S.store store.old).disk (S.store store.new).disk }

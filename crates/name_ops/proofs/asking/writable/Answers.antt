@@ -1,4 +1,4 @@
-use Rattle.std.proofs.Common.{◌≡◌, Option, Some, None, IfSome, subst}
+use Rattle.std.proofs.Common.{Option, subst}
 use Rattle.volume_model.specs.declared.inode.Dinode.{Dinode}
 use Rattle.name_ops.proofs.AskedStores.{IsReadByTree, none_writable, denied_writable, some_writable}
 use Rattle.name_ops.proofs.asking.writable.Goals as goal

@@ -1,6 +1,5 @@
-use Rattle.std.proofs.Common.{◌≡◌, ℕ, List, Option, Some, None, IfSome, sym, ap, subst, ◌∙◌}
+use Rattle.std.proofs.Common.{Some, ap, ◌∙◌}
 use Rattle.lufs_base.specs.declared.geometry.Geometry.{Geometry}
-use Rattle.lufs_base.specs.declared.numbers.BlockNo.{BlockNo}
 use Rattle.volume_model.specs.declared.inode.Dinode.{Dinode}
 use Rattle.volume_model.specs.Format.{dinode_bytes}
 use Rattle.meta_store.specs.declared.change.Change.{Change}
@@ -10,14 +9,16 @@ use Rattle.meta_store.specs.NoChange.{no_change}
 use Rattle.meta_draft.specs.Deltas.{inode_delta}
 use Rattle.meta_draft.specs.Drafted.{with_delta}
 use Rattle.path_walk.specs.Answers.{end_of}
-use Rattle.name_ops.proofs.PlannedStores.{told_no_inode, told_created}
+use Rattle.name_ops.proofs.PlannedStores.{told_no_inode}
+use Rattle.name_ops.proofs.CreatedStores.{creating, create_makes, told_created}
 use Rattle.name_ops.proofs.create.draw_create.Goals as goal
 
 pub returns-in_default-clause-drawn : goal.returns-in_default-clause-drawn
 returns-in_default-clause-drawn g c =
     let told = all_told (g.S.MetaRead.store c.args.store.now) (g.S.MetaRead.changing c.args.store.now) in
-    told_no_inode told.read.content told c.geometry.result.now c.args.cred.now c.args.mode c.args.moment (end_of c.args.walked.now) c.args.hand.now c.new-draft.result.change
-    c.geometry.ensures.in_range (g.met.S.MetaRead.size c.args.store.now) c.geometry.ensures.value c.in_default.ensures.none
+    let p = end_of c.args.walked.now in
+    told_no_inode c.args.cred.now (creating c.args.mode) p (create_makes c.args.cred.now c.args.mode p) told.read.content told c.geometry.result.now c.args.moment c.args.hand.now c.new-draft.result.change
+    c.geometry.ensures.value c.in_default.ensures.none
 
 pub returns-clause-drawn : goal.returns-clause-drawn
 returns-clause-drawn g c =

@@ -1,4 +1,4 @@
-use Rattle.std.proofs.Common.{◌≡◌, ℕ, true, List, Option, Some, None, IfSome, sym, subst, ◌∙◌}
+use Rattle.std.proofs.Common.{ℕ, true, List, Option, sym, subst, ◌∙◌}
 use Rattle.volume_model.specs.declared.inode.Dinode.{Dinode}
 use Rattle.tree_types.specs.declared.reply.Refusal.{Refusal}
 use Rattle.path_walk.specs.Answers.{end_of}

@@ -1,4 +1,4 @@
-use Rattle.std.proofs.Common.{Option, Some, None, subst}
+use Rattle.std.proofs.Common.{Option, subst}
 use Rattle.volume_model.specs.declared.inode.Dinode.{Dinode}
 use Rattle.name_ops.proofs.AskedStores.{IsReadByTree}
 use Rattle.name_ops.proofs.WantedRemove.{told_no_directory, told_directory}

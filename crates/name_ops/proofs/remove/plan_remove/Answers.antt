@@ -1,4 +1,4 @@
-use Rattle.std.proofs.Common.{◌≡◌, ◌≤◌, ℕ, [], Option, IfSome, refl, sym, ap, subst, arith}
+use Rattle.std.proofs.Common.{◌≡◌, ◌≤◌, [], refl, sym, ap, subst, arith}
 use Rattle.lufs_base.specs.Layout.{need_of}
 use Rattle.lufs_base.specs.declared.geometry.Geometry.{Geometry}
 use Rattle.volume_model.specs.Log.{delta_bytes}
@@ -11,17 +11,18 @@ use Rattle.draft_laws.specs.Drafts.{IsRecorded}
 use Rattle.change_rules.proofs.PlanApplies.{nothing_recorded, may_apply}
 use Rattle.path_walk.specs.Answers.{end_of}
 use Rattle.name_ops.specs.declared.wanted.Wanted.{Wanted}
-use Rattle.name_ops.proofs.WantedRemove.{Answers}
-use Rattle.name_ops.proofs.RemovedStores.{Planned, told_refused, told_nothing, told_done, told_tight, moved_drawn, room_left}
+use Rattle.name_ops.proofs.DecidedRemove.{changes}
+use Rattle.name_ops.proofs.WantedRemove.{remove}
+use Rattle.name_ops.proofs.OnePathPlans.{Answers, Planned, told_refused, told_nothing, told_done, told_tight, moved_drawn, room_left}
 use Rattle.name_ops.proofs.remove.plan_remove.Goals as goal
 
 pub returns-in-Refused-clause-planned : goal.returns-in-Refused-clause-planned
 returns-in-Refused-clause-planned g c =
     let told = all_told (g.S.MetaRead.store c.args.store.now) (g.S.MetaRead.changing c.args.store.now) in
     let p = end_of c.args.walked.now in
-    subst (λ (change : Change). Planned told.read.content told c.args.cred.now c.args.moment p change (reply.Refused c.in-Refused.why)) (sym c.new.ensures)
-    (told_refused told.read.content told c.args.cred.now c.args.moment p c.in-Refused.why c.geometry.ensures.in_range (g.met.S.MetaRead.size c.args.store.now)
-    (subst (λ (wanted : Wanted). Answers told.read.content told.read.geometry c.args.cred.now p wanted) c.in-Refused.is c.in_ok-why.ensures.answer))
+    subst (λ (change : Change). Planned remove told.read.content told c.args.cred.now c.args.moment p change (reply.Refused c.in-Refused.why)) (sym c.new.ensures)
+    (told_refused remove told.read.content told c.args.cred.now c.args.moment p c.in-Refused.why c.geometry.ensures.in_range (g.met.S.MetaRead.size c.args.store.now)
+    (subst (λ (wanted : Wanted). Answers remove told.read.content told.read.geometry c.args.cred.now p wanted) c.in-Refused.is c.in_ok-why.ensures.answer))
 
 pub returns-in-Refused-clause-applies : goal.returns-in-Refused-clause-applies
 returns-in-Refused-clause-applies g c =
@@ -29,7 +30,7 @@ returns-in-Refused-clause-applies g c =
     let less : delta_bytes [] ≤ need_of told.read.geometry = omega arith in
     subst (λ (change : Change). MayApply change told) (sym c.new.ensures)
     (may_apply no_change told refl (nothing_recorded told.read.geometry) (room_left told.changing.room (delta_bytes []) (need_of told.read.geometry) less c.requires.room)
-    (told_nothing told.read.content told c.args.cred.now (end_of c.args.walked.now) c.geometry.ensures.in_range (g.met.S.MetaRead.size c.args.store.now) c.requires.may))
+    (told_nothing remove told.read.content told c.args.cred.now (end_of c.args.walked.now) c.geometry.ensures.in_range (g.met.S.MetaRead.size c.args.store.now) c.requires.may))
 
 pub returns-clause-planned : goal.returns-clause-planned
 returns-clause-planned g c =
@@ -38,11 +39,11 @@ returns-clause-planned g c =
     let p = end_of c.args.walked.now in
     let change = c.in_ok-draft.draft.change in
     let same = c.in_ok-why.ensures.unchanged in
-    let asks = subst (λ (wanted : Wanted). Answers told.read.content told.read.geometry c.args.cred.now p wanted) c.in_default.is c.in_ok-why.ensures.answer in
-    let draws = moved_drawn told.read.content told now c.args.moment p change same.content same.geometry c.in_ok-why.ensures.kept.taken c.in_ok-draft.ensures.drawn in
-    told_done c.in_default.field-0 c.in_default.field-1 c.in_default.field-2 change c.finished.result told.read.content told c.args.cred.now c.args.moment p
+    let asks = subst (λ (wanted : Wanted). Answers remove told.read.content told.read.geometry c.args.cred.now p wanted) c.in_default.is c.in_ok-why.ensures.answer in
+    let draws = moved_drawn remove told.read.content told now c.args.moment p change same.content same.geometry c.in_ok-why.ensures.kept.taken c.in_ok-draft.ensures.drawn in
+    told_done remove changes c.in_default.field-0 c.in_default.field-1 c.in_default.field-2 change c.finished.result told.read.content told c.args.cred.now c.args.moment p
     c.geometry.ensures.in_range (g.met.S.MetaRead.size c.args.store.now) asks draws
-    (subst (λ (h : Geometry). IsRecorded h change → c.finished.result ≡ change) c.geometry.ensures.value c.finished.ensures.whole)
+    (subst (λ (h : Geometry). IsRecorded h change → c.finished.result ≡ change) c.geometry.ensures.value c.finished.ensures.whole) (λ h tree path. refl) (λ path. refl)
 
 pub returns-clause-applies : goal.returns-clause-applies
 returns-clause-applies g c =
@@ -51,12 +52,12 @@ returns-clause-applies g c =
     let p = end_of c.args.walked.now in
     let change = c.in_ok-draft.draft.change in
     let same = c.in_ok-why.ensures.unchanged in
-    let asks = subst (λ (wanted : Wanted). Answers told.read.content told.read.geometry c.args.cred.now p wanted) c.in_default.is c.in_ok-why.ensures.answer in
-    let draws = moved_drawn told.read.content told now c.args.moment p change same.content same.geometry c.in_ok-why.ensures.kept.taken c.in_ok-draft.ensures.drawn in
+    let asks = subst (λ (wanted : Wanted). Answers remove told.read.content told.read.geometry c.args.cred.now p wanted) c.in_default.is c.in_ok-why.ensures.answer in
+    let draws = moved_drawn remove told.read.content told now c.args.moment p change same.content same.geometry c.in_ok-why.ensures.kept.taken c.in_ok-draft.ensures.drawn in
     let less : delta_bytes c.finished.result.deltas ≤ need_of told.read.geometry = omega (arith, c.finished.ensures.size, c.in_ok-draft.ensures.growth, ap (λ (h : Geometry). h.groups) same.geometry) in
     may_apply c.finished.result told (c.finished.ensures.taken c.in_ok-draft.ensures.taken)
     (subst (λ (h : Geometry). IsRecorded h c.finished.result) c.geometry.ensures.value c.finished.ensures.recorded)
     (room_left told.changing.room (delta_bytes c.finished.result.deltas) (need_of told.read.geometry) less c.requires.room)
-    (told_tight c.in_default.field-0 c.in_default.field-1 c.in_default.field-2 change c.finished.result told.read.content told c.args.cred.now c.args.moment p
+    (told_tight remove changes c.in_default.field-0 c.in_default.field-1 c.in_default.field-2 change c.finished.result told.read.content told c.args.cred.now c.args.moment p
     c.geometry.ensures.in_range (g.met.S.MetaRead.size c.args.store.now) asks draws
     (subst (λ (h : Geometry). IsRecorded h change → c.finished.result ≡ change) c.geometry.ensures.value c.finished.ensures.whole) c.requires.may)
