@@ -1,0 +1,10 @@
+pub mod Enough
+pub mod Inside
+pub mod Kept
+pub mod Free
+pub mod Applied
+pub mod Taken
+pub mod Carried
+pub mod ShortNames
+pub mod ShortReplies
+pub mod ServedCalls
