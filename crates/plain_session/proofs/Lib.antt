@@ -1,0 +1,5 @@
+mod ServedEntries
+mod ScriptLines
+mod UnderWay
+mod Histories
+mod EnteredLines
