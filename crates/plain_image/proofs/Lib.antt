@@ -1,0 +1,9 @@
+pub mod ReadBlocks
+pub mod ChangedLists
+pub mod HomeSectors
+pub mod BlockSteps
+pub mod HomesLoop
+pub mod LogEmptied
+pub mod BackCalls
+pub mod BackContent
+pub mod SameHomes

@@ -1,0 +1,3 @@
+pub mod HomeBlocks
+pub mod WrittenBack
+pub mod HomesWritten
