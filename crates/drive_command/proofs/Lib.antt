@@ -1,0 +1,5 @@
+pub mod PutTexts
+pub mod VolumeSteps
+pub mod SessionSteps
+pub mod OutsideSteps
+pub mod SameVerdict

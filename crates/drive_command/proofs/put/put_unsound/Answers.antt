@@ -1,0 +1,13 @@
+use Rattle.std.proofs.Common.{◌≡◌, ℕ, List, ap, ◌∙◌}
+use Rattle.std.specs.Prelude.{codes}
+use Rattle.volume_model.specs.Texts.{word_of}
+use Rattle.drive_command.specs.Ending.{counted_line}
+use Rattle.drive_command.proofs.PutTexts.{puts_as, finding_line}
+use Rattle.drive_command.proofs.put.put_unsound.Goals as goal
+
+pub returns : goal.returns
+returns g c =
+    let word : c.as_bytes.result.now ≡ word_of c.args.kind = c.as_bytes.ensures.value ∙ c.word_of.ensures in
+    puts_as _ _ c.put_number.result _ _
+    (ap (λ (name : List ℕ). counted_line (codes "unsound") name c.args.number) word ∙ finding_line c.args.kind c.args.number)
+    c.put_number.ensures

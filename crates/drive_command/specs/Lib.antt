@@ -1,0 +1,5 @@
+pub mod Ending
+pub mod Sources
+pub mod Volume
+pub mod Sessions
+pub mod Drive
