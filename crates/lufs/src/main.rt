@@ -1,4 +1,4 @@
-//! The program `lufs`: makes, checks and lists volumes with a log of their metadata.
+//! The program `lufs`: makes, checks and lists volumes with a log of their metadata, and serves scripts on them.
 #![tactic(auto)]
 
 mod program;

@@ -1,3 +1,4 @@
+pub mod NameTests
 pub mod Ranges
 pub mod NumberTests
 pub mod Content
@@ -8,6 +9,14 @@ pub mod ScanSteps
 pub mod CheckSteps
 pub mod MkfsSteps
 pub mod OutsideFacts
+pub mod SessionKeeps
+pub mod CommandKeeps
+pub mod AskLists
+pub mod SessionAsks
+pub mod SessionCauses
+pub mod StatusTests
 pub mod RunClauses
 pub mod RunCauses
+pub mod RunBack
 pub mod RunVerdict
+pub mod RunSession

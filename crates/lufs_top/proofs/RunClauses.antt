@@ -1,96 +1,120 @@
 -- What follows for the outside from how a run went.
-use Rattle.std.proofs.Common.{◌≡◌, ◌≢◌, ◌⊎◌, inl, inr, ℕ, List, [], ◌∷◌, ◌++◌, Option, Some, None, refl, sym, ◌∙◌, ap, subst, arith, append_assoc}
-use Rattle.std.proofs.lemmas.List.{append-nil}
+use Rattle.std.proofs.Common.{◌≡◌, ◌≢◌, ◌≤◌, ◌⊎◌, inl, inr, ℕ, true, false, List, [], ◌∷◌, ◌++◌, Option, Some, None, refl, sym, ◌∙◌, ap, subst, arith}
 use Rattle.std.specs.Prelude.{Contains, option_map}
 use Rattle.sector_disk.specs.Disk.{DiskTold}
-use Rattle.host_io.specs.declared.host.Ask.{Ask}
-use Rattle.host_io.specs.declared.host.AskKind.{AskKind}
 use Rattle.host_io.specs.declared.host.AskKind.TheVariants.{TakeDisk, MakeDisk, TakeSink}
 use Rattle.host_io.specs.declared.host.AskAnswer.TheVariants as answers
 use Rattle.host_io.specs.declared.host.HostError.{HostError}
 use Rattle.host_io.specs.declared.host.HostError.TheVariants as hosts
-use Rattle.host_io.specs.Outside.{Outside, after_ask, refused_with, with_ask}
+use Rattle.host_io.specs.Outside.{Outside, after_ask, refused_with}
+use Rattle.drive_command.specs.declared.ending.DriveEnding.{DriveEnding}
+use Rattle.drive_command.specs.declared.ending.DriveEnding.TheVariants as drives
+use Rattle.drive_command.specs.Ending.{drive_status}
 use Rattle.lufs_top.specs.declared.ending.Ending.{Ending}
-use Rattle.lufs_top.specs.declared.ending.Ending.TheVariants.{Usage, Missing, DiskFault, NoMemory, Scan, Check, Mkfs}
+use Rattle.lufs_top.specs.declared.ending.Ending.TheVariants.{Usage, Missing, DiskFault, NoMemory, Scan, Check, Mkfs, Drive}
+use Rattle.lufs_top.specs.declared.scan.ScanEnding.{ScanEnding}
 use Rattle.lufs_top.specs.declared.scan.ScanEnding.TheVariants.{Listed, NotVolume, BadHeader, BadRun}
+use Rattle.lufs_top.specs.declared.check.CheckEnding.{CheckEnding}
 use Rattle.lufs_top.specs.declared.check.CheckEnding.TheVariants as checks
 use Rattle.volume_model.specs.declared.finding.Verdict.TheVariants.{Clean, Finding}
+use Rattle.lufs_top.specs.declared.mkfs.MkfsEnding.{MkfsEnding}
 use Rattle.lufs_top.specs.declared.mkfs.MkfsEnding.TheVariants.{Made, Refused}
-use Rattle.lufs_top.specs.Words.{Command, scan, check, mkfs, standard_output}
-use Rattle.lufs_top.specs.Ending.{status_of, IsRefusal}
+use Rattle.lufs_top.specs.Words.{Command, scan, check, mkfs, drive, standard_output}
+use Rattle.lufs_top.specs.Ending.{status_of, scan_status, check_status, mkfs_status, IsRefusal}
 use Rattle.lufs_top.specs.Borrowed.{HasRead, not_lent, read}
 use Rattle.lufs_top.specs.Mkfs.{out_of_range, no_memory, not_made, worked}
-use Rattle.lufs_top.specs.Run.{Ran, Runs, no_output, ran, Says, whole, cut, status_if_cut, status_without_output, volume_of, asked_by, AsksInOrder, KeepsOthers}
-use Rattle.lufs_top.proofs.OutsideFacts.{Keeps, keeps_both, keeps_itself, refused_keeps, disk_back_keeps, sink_back_keeps, sink_given_keeps}
+use Rattle.lufs_top.specs.Run.{Ran, Runs, no_output, ran, Says, whole, cut, status_if_cut, status_without_output, named_by, asked_by, AsksInOrder, KeepsOthers}
+use Rattle.lufs_top.proofs.StatusTests.{cut_cases, IsNot, scan_quiet, check_quiet, mkfs_quiet}
+use Rattle.lufs_top.proofs.OutsideFacts.{Keeps, keeps_both, keeps_to, fewer, ask_keeps, sink_keeps}
+use Rattle.lufs_top.proofs.CommandKeeps.{SparesDisk, SparesSource, SparesSink, command_keeps}
+use Rattle.lufs_top.proofs.AskLists.{no_asks, given_first, refused_asks}
+use Rattle.lufs_top.proofs.SessionAsks.{session_asks}
 
--- the statuses that there are
-abbrev pub statuses : List ℕ
-statuses = 0 ∷ 1 ∷ 2 ∷ 4 ∷ 5 ∷ 6 ∷ 7 ∷ 10 ∷ 11 ∷ 12 ∷ []
+-- no status is above 12
+scan_low : (ended : ScanEnding) → scan_status ended ≤ 12
+scan_low (Listed text) = omega arith
+scan_low NotVolume = omega arith
+scan_low BadHeader = omega arith
+scan_low (BadRun tid place) = omega arith
 
-status_listed : (ending : Ending) → Contains statuses (status_of ending)
-status_listed Usage = (1, omega arith, refl)
-status_listed (Missing name) = (2, omega arith, refl)
-status_listed (DiskFault name) = (3, omega arith, refl)
-status_listed NoMemory = (9, omega arith, refl)
-status_listed (Scan volume (Listed text)) = (0, omega arith, refl)
-status_listed (Scan volume NotVolume) = (5, omega arith, refl)
-status_listed (Scan volume BadHeader) = (8, omega arith, refl)
-status_listed (Scan volume (BadRun tid place)) = (8, omega arith, refl)
-status_listed (Check volume (checks.Checked (Clean counts))) = (0, omega arith, refl)
-status_listed (Check volume (checks.Checked (Finding kind number))) = (6, omega arith, refl)
-status_listed (Check volume checks.NotVolume) = (5, omega arith, refl)
-status_listed (Check volume checks.BadHeader) = (8, omega arith, refl)
-status_listed (Check volume (checks.BadRun tid place)) = (8, omega arith, refl)
-status_listed (Mkfs (Made text)) = (0, omega arith, refl)
-status_listed (Mkfs (Refused bad)) = (7, omega arith, refl)
+check_low : (ended : CheckEnding) → check_status ended ≤ 12
+check_low (checks.Checked (Clean counts)) = omega arith
+check_low (checks.Checked (Finding kind number)) = omega arith
+check_low checks.NotVolume = omega arith
+check_low checks.BadHeader = omega arith
+check_low (checks.BadRun tid place) = omega arith
 
-cut_listed : (ending : Ending) → Contains statuses (status_if_cut (status_of ending))
-cut_listed Usage = (1, omega arith, refl)
-cut_listed (Missing name) = (2, omega arith, refl)
-cut_listed (DiskFault name) = (3, omega arith, refl)
-cut_listed NoMemory = (9, omega arith, refl)
-cut_listed (Scan volume (Listed text)) = (4, omega arith, refl)
-cut_listed (Scan volume NotVolume) = (5, omega arith, refl)
-cut_listed (Scan volume BadHeader) = (8, omega arith, refl)
-cut_listed (Scan volume (BadRun tid place)) = (8, omega arith, refl)
-cut_listed (Check volume (checks.Checked (Clean counts))) = (4, omega arith, refl)
-cut_listed (Check volume (checks.Checked (Finding kind number))) = (6, omega arith, refl)
-cut_listed (Check volume checks.NotVolume) = (5, omega arith, refl)
-cut_listed (Check volume checks.BadHeader) = (8, omega arith, refl)
-cut_listed (Check volume (checks.BadRun tid place)) = (8, omega arith, refl)
-cut_listed (Mkfs (Made text)) = (4, omega arith, refl)
-cut_listed (Mkfs (Refused bad)) = (7, omega arith, refl)
+mkfs_low : (ended : MkfsEnding) → mkfs_status ended ≤ 12
+mkfs_low (Made text) = omega arith
+mkfs_low (Refused bad) = omega arith
 
-without_listed : (error : HostError) → Contains statuses (status_without_output error)
-without_listed hosts.Missing = (4, omega arith, refl)
-without_listed hosts.Failed = (4, omega arith, refl)
-without_listed hosts.Mem = (9, omega arith, refl)
+drive_low : (ended : DriveEnding) → drive_status ended ≤ 12
+drive_low (drives.Missing name) = omega arith
+drive_low (drives.ReadFault name) = omega arith
+drive_low (drives.OverLimit name limit) = omega arith
+drive_low (drives.DiskFault name) = omega arith
+drive_low (drives.NotVolume name) = omega arith
+drive_low drives.BadHeader = omega arith
+drive_low (drives.EpochSpent name) = omega arith
+drive_low (drives.BadLog tid place) = omega arith
+drive_low (drives.Unsound kind number) = omega arith
+drive_low (drives.ReplyFault name) = omega arith
+drive_low drives.NoMemory = omega arith
+drive_low (drives.Driven text true) = omega arith
+drive_low (drives.Driven text false) = omega arith
 
-listed_as : (s status : ℕ) → status ≡ s → Contains statuses s → Contains statuses status
-listed_as s status is there = subst (λ (n : ℕ). Contains statuses n) (sym is) there
+status_low : (ending : Ending) → status_of ending ≤ 12
+status_low Usage = omega arith
+status_low (Missing name) = omega arith
+status_low (DiskFault name) = omega arith
+status_low NoMemory = omega arith
+status_low (Scan volume ended) = scan_low ended
+status_low (Check volume ended) = check_low ended
+status_low (Mkfs ended) = mkfs_low ended
+status_low (Drive ended) = drive_low ended
 
-pub run_statuses : (command : Option Command) (status : ℕ) (old new : Outside) → Runs command status old new → Contains statuses status
-run_statuses command status old new (no_output error not_missing is after) = listed_as (status_without_output error) status is (without_listed error)
-run_statuses command status old new (ran ending out said done went empty (whole is put) back) = listed_as (status_of ending) status is (status_listed ending)
-run_statuses command status old new (ran ending out said done went empty (cut n is put) back) = listed_as (status_if_cut (status_of ending)) status is (cut_listed ending)
+cut_low : (status : ℕ) → status ≤ 12 → status_if_cut status ≤ 12
+cut_low status low = elim (cut_cases status) [ inl zeros ↦ let is = zeros.1 in omega (arith, is) | inr same ↦ omega (arith, same, low) ]
 
--- the status of an ending, by a test on the ending
+without_low : (error : HostError) → status_without_output error ≤ 12
+without_low hosts.Missing = omega arith
+without_low hosts.Failed = omega arith
+without_low hosts.Mem = omega arith
+
+low_as : (s status : ℕ) → status ≡ s → s ≤ 12 → status ≤ 12
+low_as s status is low = subst (λ (n : ℕ). n ≤ 12) (sym is) low
+
+pub run_statuses : (command : Option Command) (status : ℕ) (old new : Outside) → Runs command status old new → status ≤ 12
+run_statuses command status old new (no_output error not_missing is after) = low_as (status_without_output error) status is (without_low error)
+run_statuses command status old new (ran ending out said done went empty (whole is put) back) = low_as (status_of ending) status is (status_low ending)
+run_statuses command status old new (ran ending out said done went empty (cut n is put) back) = low_as (status_if_cut (status_of ending)) status is (cut_low (status_of ending) (status_low ending))
+
+-- no session ends with the status of usage
+usage_drive : (ended : DriveEnding) → IsNot 1 (drive_status ended)
+usage_drive (drives.Missing name) is = elim is [ inl one ↦ omega (arith, one) | inr one ↦ omega (arith, one) ]
+usage_drive (drives.ReadFault name) is = elim is [ inl one ↦ omega (arith, one) | inr one ↦ omega (arith, one) ]
+usage_drive (drives.OverLimit name limit) is = elim is [ inl one ↦ omega (arith, one) | inr one ↦ omega (arith, one) ]
+usage_drive (drives.DiskFault name) is = elim is [ inl one ↦ omega (arith, one) | inr one ↦ omega (arith, one) ]
+usage_drive (drives.NotVolume name) is = elim is [ inl one ↦ omega (arith, one) | inr one ↦ omega (arith, one) ]
+usage_drive drives.BadHeader is = elim is [ inl one ↦ omega (arith, one) | inr one ↦ omega (arith, one) ]
+usage_drive (drives.EpochSpent name) is = elim is [ inl one ↦ omega (arith, one) | inr one ↦ omega (arith, one) ]
+usage_drive (drives.BadLog tid place) is = elim is [ inl one ↦ omega (arith, one) | inr one ↦ omega (arith, one) ]
+usage_drive (drives.Unsound kind number) is = elim is [ inl one ↦ omega (arith, one) | inr one ↦ omega (arith, one) ]
+usage_drive (drives.ReplyFault name) is = elim is [ inl one ↦ omega (arith, one) | inr one ↦ omega (arith, one) ]
+usage_drive drives.NoMemory is = elim is [ inl one ↦ omega (arith, one) | inr one ↦ omega (arith, one) ]
+usage_drive (drives.Driven text true) is = elim is [ inl one ↦ omega (arith, one) | inr one ↦ omega (arith, one) ]
+usage_drive (drives.Driven text false) is = elim is [ inl one ↦ omega (arith, one) | inr one ↦ omega (arith, one) ]
+
+-- the ending of a status 1
 only_usage : (ending : Ending) → (status_of ending ≡ 1) ⊎ (status_if_cut (status_of ending) ≡ 1) → ending ≡ Usage
 only_usage Usage is = refl
 only_usage (Missing name) is = absurd (elim is [ inl one ↦ omega (arith, one) | inr one ↦ omega (arith, one) ])
 only_usage (DiskFault name) is = absurd (elim is [ inl one ↦ omega (arith, one) | inr one ↦ omega (arith, one) ])
 only_usage NoMemory is = absurd (elim is [ inl one ↦ omega (arith, one) | inr one ↦ omega (arith, one) ])
-only_usage (Scan volume (Listed text)) is = absurd (elim is [ inl one ↦ omega (arith, one) | inr one ↦ omega (arith, one) ])
-only_usage (Scan volume NotVolume) is = absurd (elim is [ inl one ↦ omega (arith, one) | inr one ↦ omega (arith, one) ])
-only_usage (Scan volume BadHeader) is = absurd (elim is [ inl one ↦ omega (arith, one) | inr one ↦ omega (arith, one) ])
-only_usage (Scan volume (BadRun tid place)) is = absurd (elim is [ inl one ↦ omega (arith, one) | inr one ↦ omega (arith, one) ])
-only_usage (Check volume (checks.Checked (Clean counts))) is = absurd (elim is [ inl one ↦ omega (arith, one) | inr one ↦ omega (arith, one) ])
-only_usage (Check volume (checks.Checked (Finding kind number))) is = absurd (elim is [ inl one ↦ omega (arith, one) | inr one ↦ omega (arith, one) ])
-only_usage (Check volume checks.NotVolume) is = absurd (elim is [ inl one ↦ omega (arith, one) | inr one ↦ omega (arith, one) ])
-only_usage (Check volume checks.BadHeader) is = absurd (elim is [ inl one ↦ omega (arith, one) | inr one ↦ omega (arith, one) ])
-only_usage (Check volume (checks.BadRun tid place)) is = absurd (elim is [ inl one ↦ omega (arith, one) | inr one ↦ omega (arith, one) ])
-only_usage (Mkfs (Made text)) is = absurd (elim is [ inl one ↦ omega (arith, one) | inr one ↦ omega (arith, one) ])
-only_usage (Mkfs (Refused bad)) is = absurd (elim is [ inl one ↦ omega (arith, one) | inr one ↦ omega (arith, one) ])
+only_usage (Scan volume ended) is = absurd (scan_quiet ended 1 (omega arith) (omega arith) is)
+only_usage (Check volume ended) is = absurd (check_quiet ended 1 (omega arith) (omega arith) is)
+only_usage (Mkfs ended) is = absurd (mkfs_quiet ended 1 (omega arith) (omega arith) is)
+only_usage (Drive ended) is = absurd (usage_drive ended is)
 
 refused_not_usage : (error : HostError) (name : List ℕ) → IsRefusal error name Usage → ⊥
 refused_not_usage hosts.Missing name is = is
@@ -107,6 +131,7 @@ usage_is_no_command (Some (mkfs volume numbers)) old new (out_of_range bad range
 usage_is_no_command (Some (mkfs volume numbers)) old new (no_memory range is same) = absurd (cc (is))
 usage_is_no_command (Some (mkfs volume numbers)) old new (not_made error range is made) = absurd (refused_not_usage error volume is)
 usage_is_no_command (Some (mkfs volume numbers)) old new (worked moment told small range before now made crash fails is) = absurd is
+usage_is_no_command (Some (drive volume schedule script)) old new went = absurd went
 
 without_not_1 : (error : HostError) → status_without_output error ≡ 1 → ⊥
 without_not_1 hosts.Missing is = omega (arith, is)
@@ -132,73 +157,57 @@ run_no_command status old new (ran ending out said done went empty (whole is put
 run_no_command status old new (ran ending out said done went empty (cut n is put) back) =
     subst (λ (n : ℕ). Contains (1 ∷ 5 ∷ 12 ∷ []) n) (sym (is ∙ ap (λ (e : Ending). status_if_cut (status_of e)) went.0)) (0, omega arith, refl)
 
--- asks that are added after others
-added : (a b : List Ask) (old mid new : Option (List Ask)) → mid ≡ option_map (λ asks. asks ++ a) old → new ≡ option_map (λ asks. asks ++ b) mid → new ≡ option_map (λ asks. asks ++ (a ++ b)) old
-added a b None mid new first second = second ∙ ap (option_map (λ asks. asks ++ b)) first
-added a b (Some asks) mid new first second = second ∙ ap (option_map (λ asks. asks ++ b)) first ∙ ap (λ (l : List Ask). Some l) (append_assoc asks a b)
-
-none_added : (asks : Option (List Ask)) → asks ≡ option_map (λ asks. asks ++ []) asks
-none_added None = refl
-none_added (Some asks) = ap (λ (l : List Ask). Some l) (sym (append-nil asks))
-
--- the asks of a refusal
-refused_asks : (kind : AskKind) (name : List ℕ) (error : HostError) (old new : Outside) → new ≡ after_ask kind name (refused_with error) old → AsksInOrder ((kind, name) ∷ []) old new
-refused_asks kind name hosts.Missing old new is = (record { kind = kind; name = name; answer = answers.Missing } ∷ [], (refl, refl, inl refl, tt), ap (λ (o : Outside). o.asks) is)
-refused_asks kind name hosts.Failed old new is = (record { kind = kind; name = name; answer = answers.Failed } ∷ [], (refl, refl, inl refl, tt), ap (λ (o : Outside). o.asks) is)
-refused_asks kind name hosts.Mem old new is = ([], tt, ap (λ (o : Outside). o.asks) is ∙ none_added old.asks)
+asks_of : (old new : Outside) → new ≡ old → new.asks ≡ old.asks
+asks_of old new same = ap (λ (o : Outside). o.asks) same
 
 reading_asks : (volume : List ℕ) (IsEnding : DiskTold → Ending → Type 0) (ending : Ending) (old new : Outside) → HasRead volume IsEnding ending old new → AsksInOrder ((TakeDisk, volume) ∷ []) old new
-reading_asks volume IsEnding ending old new (not_lent error is lent) = refused_asks TakeDisk volume error old new lent.after
+reading_asks volume IsEnding ending old new (not_lent error is lent) = refused_asks TakeDisk volume [] error old new (asks_of _ new lent.after)
 reading_asks volume IsEnding ending old new (read before now lent unwritten fails is) =
-    (record { kind = TakeDisk; name = volume; answer = answers.Given } ∷ [], (refl, refl, inl refl, tt), ap (λ (o : Outside). o.asks) lent.back)
+    given_first TakeDisk volume [] old _ new refl (no_asks [] (after_ask TakeDisk volume (Some answers.Given) old) new (asks_of _ new lent.back))
 
 command_asks : (command : Option Command) (ending : Ending) (old new : Outside) → Ran command ending old new → AsksInOrder (asked_by command) old new
-command_asks None ending old new went = ([], tt, ap (λ (o : Outside). o.asks) went.1 ∙ none_added old.asks)
+command_asks None ending old new went = no_asks [] old new (asks_of old new went.1)
 command_asks (Some (scan volume)) ending old new went = reading_asks volume _ ending old new went
 command_asks (Some (check volume)) ending old new went = reading_asks volume _ ending old new went
-command_asks (Some (mkfs volume numbers)) ending old new (out_of_range bad range is same) = ([], tt, ap (λ (o : Outside). o.asks) same ∙ none_added old.asks)
-command_asks (Some (mkfs volume numbers)) ending old new (no_memory range is same) = ([], tt, ap (λ (o : Outside). o.asks) same ∙ none_added old.asks)
-command_asks (Some (mkfs volume numbers)) ending old new (not_made error range is made) = refused_asks MakeDisk volume error old new made.after
+command_asks (Some (mkfs volume numbers)) ending old new (out_of_range bad range is same) = no_asks _ old new (asks_of old new same)
+command_asks (Some (mkfs volume numbers)) ending old new (no_memory range is same) = no_asks _ old new (asks_of old new same)
+command_asks (Some (mkfs volume numbers)) ending old new (not_made error range is made) = refused_asks MakeDisk volume [] error old new (asks_of _ new made.after)
 command_asks (Some (mkfs volume numbers)) ending old new (worked moment told small range before now made crash fails is) =
-    (record { kind = MakeDisk; name = volume; answer = answers.Given } ∷ [], (refl, refl, inl refl, tt), ap (λ (o : Outside). o.asks) made.back)
+    given_first MakeDisk volume [] old _ new refl (no_asks [] (after_ask MakeDisk volume (Some answers.Given) old) new (asks_of _ new made.back))
+command_asks (Some (drive volume schedule script)) (Drive ended) old new went = session_asks volume schedule script ended old new went
+command_asks (Some (drive volume schedule script)) ending old new went = absurd went
 
 pub run_asks : (command : Option Command) (status : ℕ) (old new : Outside) → Runs command status old new → AsksInOrder ((TakeSink, standard_output) ∷ asked_by command) old new
-run_asks command status old new (no_output hosts.Missing not_missing is after) = absurd (not_missing refl)
-run_asks command status old new (no_output hosts.Failed not_missing is after) = (record { kind = TakeSink; name = standard_output; answer = answers.Failed } ∷ [], (refl, refl, inl refl, tt), ap (λ (o : Outside). o.asks) after)
-run_asks command status old new (no_output hosts.Mem not_missing is after) = ([], tt, ap (λ (o : Outside). o.asks) after ∙ none_added old.asks)
+run_asks command status old new (no_output error not_missing is after) = refused_asks TakeSink standard_output _ error old new (asks_of _ new after)
 run_asks command status old new (ran ending out said done went empty says back) =
-    let more = command_asks command ending (after_ask TakeSink standard_output (Some answers.Given) old) done went in
-    let sink : Ask = record { kind = TakeSink; name = standard_output; answer = answers.Given } in
-    (sink ∷ more.0, (refl, refl, inr refl, more.1), added (sink ∷ []) more.0 old.asks (with_ask TakeSink standard_output answers.Given old.asks) new.asks refl (ap (λ (o : Outside). o.asks) back ∙ more.2))
+    let lent = after_ask TakeSink standard_output (Some answers.Given) old in
+    let more = command_asks command ending lent done went in
+    given_first TakeSink standard_output _ old lent new refl (more.0, more.1, asks_of _ new back ∙ more.2)
 
--- what is kept of fewer names
-fewer : (P Q S : List ℕ → Type 0) (old new : Outside) → ((q : List ℕ) → Q q → P q) → Keeps P S old new → Keeps Q S old new
-fewer P Q S old new to keeps = record { moment = keeps.moment; tells = keeps.tells; disks = λ q is. keeps.disks q (to q is); sources = keeps.sources; sinks = keeps.sinks; faults = keeps.faults; absent = keeps.absent }
+not_output : (command : Option Command) (q : List ℕ) → ¬ Contains (named_by command).sinks q → q ≢ standard_output
+not_output None q other same = other (0, omega arith, sym same)
+not_output (Some (scan volume)) q other same = other (0, omega arith, sym same)
+not_output (Some (check volume)) q other same = other (0, omega arith, sym same)
+not_output (Some (mkfs volume numbers)) q other same = other (0, omega arith, sym same)
+not_output (Some (drive volume schedule script)) q other same = other (0, omega arith, sym same)
 
-unnamed : (volume q : List ℕ) → Some volume ≢ Some q → q ≢ volume
-unnamed volume q other same = other (ap (λ (n : List ℕ). Some n) (sym same))
+not_own_sink : (command : Option Command) (q : List ℕ) → ¬ Contains (named_by command).sinks q → SparesSink command q
+not_own_sink None q other = tt
+not_own_sink (Some (scan volume)) q other = tt
+not_own_sink (Some (check volume)) q other = tt
+not_own_sink (Some (mkfs volume numbers)) q other = tt
+not_own_sink (Some (drive volume schedule script)) q other = (λ same. other (1, omega arith, sym same), λ same. other (2, omega arith, sym same))
 
-reading_keeps_others : (volume : List ℕ) (IsEnding : DiskTold → Ending → Type 0) (ending : Ending) (S : List ℕ → Type 0) (old new : Outside) → HasRead volume IsEnding ending old new → Keeps (λ q. Some volume ≢ Some q) S old new
-reading_keeps_others volume IsEnding ending S old new (not_lent error is lent) = refused_keeps TakeDisk volume error _ S old new lent.after
-reading_keeps_others volume IsEnding ending S old new (read before now lent unwritten fails is) = fewer (λ q. q ≢ volume) _ S old new (unnamed volume) (disk_back_keeps TakeDisk tt volume now S old new lent.back)
-
-command_keeps_others : (command : Option Command) (ending : Ending) (S : List ℕ → Type 0) (old new : Outside) → Ran command ending old new → Keeps (λ q. volume_of command ≢ Some q) S old new
-command_keeps_others None ending S old new went = keeps_itself _ S old new went.1
-command_keeps_others (Some (scan volume)) ending S old new went = reading_keeps_others volume _ ending S old new went
-command_keeps_others (Some (check volume)) ending S old new went = reading_keeps_others volume _ ending S old new went
-command_keeps_others (Some (mkfs volume numbers)) ending S old new (out_of_range bad range is same) = keeps_itself _ S old new same
-command_keeps_others (Some (mkfs volume numbers)) ending S old new (no_memory range is same) = keeps_itself _ S old new same
-command_keeps_others (Some (mkfs volume numbers)) ending S old new (not_made error range is made) = refused_keeps MakeDisk volume error _ S old new made.after
-command_keeps_others (Some (mkfs volume numbers)) ending S old new (worked moment told small range before now made crash fails is) = fewer (λ q. q ≢ volume) _ S old new (unnamed volume) (disk_back_keeps MakeDisk tt volume now S old new made.back)
-
-pub run_keeps : (command : Option Command) (status : ℕ) (old new : Outside) → Runs command status old new → Keeps (λ q. volume_of command ≢ Some q) (λ q. q ≢ standard_output) old new
-run_keeps command status old new (no_output error not_missing is after) = refused_keeps TakeSink standard_output error _ _ old new after
+pub run_keeps : (command : Option Command) (status : ℕ) (old new : Outside) → Runs command status old new
+    → Keeps (SparesDisk command) (SparesSource command) (λ q. ¬ Contains (named_by command).sinks q) old new
+run_keeps command status old new (no_output error not_missing is after) = keeps_to old _ new after (ask_keeps TakeSink standard_output (refused_with error) old (not_output command))
 run_keeps command status old new (ran ending out said done went empty says back) =
     let lent = after_ask TakeSink standard_output (Some answers.Given) old in
-    keeps_both _ _ old lent new (sink_back_keeps standard_output _ old lent refl)
-    (keeps_both _ _ lent done new (command_keeps_others command ending _ lent done went) (sink_given_keeps standard_output said _ done new back))
+    keeps_both (ask_keeps TakeSink standard_output (Some answers.Given) old (not_output command))
+    (keeps_both (fewer _ _ _ (λ q is. is) (λ q is. is) (not_own_sink command) (command_keeps command ending lent done went))
+    (keeps_to done _ new back (sink_keeps standard_output said done (not_output command))))
 
-pub run_others : (command : Option Command) (status : ℕ) (old new : Outside) → Runs command status old new → KeepsOthers (volume_of command) old new
+pub run_others : (command : Option Command) (status : ℕ) (old new : Outside) → Runs command status old new → KeepsOthers (named_by command) old new
 run_others command status old new r =
     let keeps = run_keeps command status old new r in
     record { moment = keeps.moment; tells = keeps.tells; disks = keeps.disks; sources = keeps.sources; sinks = keeps.sinks; faults = keeps.faults; absent = keeps.absent }

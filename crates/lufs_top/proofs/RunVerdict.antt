@@ -1,5 +1,5 @@
 -- What the status of a check says of the volume.
-use Rattle.std.proofs.Common.{◌≡◌, ◌⊎◌, inl, inr, ℕ, List, Option, Some, None, refl, sym, ◌∙◌, ap, subst, arith}
+use Rattle.std.proofs.Common.{◌≡◌, ◌≢◌, ◌⊎◌, inl, inr, ℕ, List, Option, Some, None, refl, sym, ◌∙◌, ap, subst, arith}
 use Rattle.std.specs.Prelude.{IfSome, option_and_then, option_map}
 use Rattle.lufs_base.specs.declared.geometry.Geometry.{Geometry}
 use Rattle.volume_model.specs.declared.finding.Verdict.TheVariants.{Clean, Finding}
@@ -17,13 +17,13 @@ use Rattle.lufs_top.specs.declared.ending.Ending.{Ending}
 use Rattle.lufs_top.specs.declared.ending.Ending.TheVariants.{Missing, DiskFault, NoMemory, Check}
 use Rattle.lufs_top.specs.declared.check.CheckEnding.{CheckEnding}
 use Rattle.lufs_top.specs.declared.check.CheckEnding.TheVariants.{Checked, NotVolume, BadHeader, BadRun}
-use Rattle.lufs_top.specs.Words.{Command, scan, check, mkfs, standard_output}
+use Rattle.lufs_top.specs.Words.{Command, scan, check, mkfs, drive, standard_output}
 use Rattle.lufs_top.specs.Borrowed.{HasRead, not_lent, read}
 use Rattle.lufs_top.specs.Check.{IsCheckOf, IsCheckEnding}
 use Rattle.lufs_top.specs.Ending.{status_of, check_status, IsRefusal}
 use Rattle.lufs_top.specs.Run.{Runs, no_output, ran, status_if_cut, status_without_output, IsVerdictStatus, TellsVerdict}
-use Rattle.lufs_top.proofs.OutsideFacts.{sink_back_keeps}
-use Rattle.lufs_top.proofs.RunCauses.{of_status, tells_of_disk}
+use Rattle.lufs_top.proofs.OutsideFacts.{Keeps, ask_keeps, same_disk, tells_of_disk}
+use Rattle.lufs_top.proofs.StatusTests.{of_status}
 
 -- the status is none that tells what was found
 abbrev TellsNothing : ℕ → Type 0
@@ -137,8 +137,8 @@ run_told volume status old new (no_output error not_missing is after) told there
     nothing_told image status (subst TellsNothing (sym is) (without_output_is_silent error))
 run_told volume status old new (ran ending out said done went empty says back) told there image present =
     let lent = after_ask TakeSink standard_output (Some answers.Given) old in
-    let first = sink_back_keeps standard_output (λ _. Unit {0}) old lent refl in
-    check_told volume ending lent done told image status went (first.disks volume tt ∙ there) present (λ n is. of_status ending status n out said says is)
+    let first : Keeps (λ _. Unit {0}) (λ _. Unit {0}) (λ q. q ≢ standard_output) old lent = ask_keeps TakeSink standard_output (Some answers.Given) old (λ q other. other) in
+    check_told volume ending lent done told image status went (same_disk old lent volume (first.disks volume tt) ∙ there) present (λ n is. of_status ending status n out said says is)
 
 pub run_verdict : (command : Option Command) (status : ℕ) (old new : Outside) → Runs command status old new → TellsVerdict command status old
 run_verdict (Some (check volume)) status old new r =
@@ -146,4 +146,5 @@ run_verdict (Some (check volume)) status old new r =
     (λ told there. if_image (λ image. IsVerdictStatus image status) told.present (λ image present. run_told volume status old new r told there image present))
 run_verdict (Some (scan volume)) status old new r = tt
 run_verdict (Some (mkfs volume numbers)) status old new r = tt
+run_verdict (Some (drive volume schedule script)) status old new r = tt
 run_verdict None status old new r = tt

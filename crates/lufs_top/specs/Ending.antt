@@ -3,11 +3,12 @@ use Rattle.std.specs.Prelude.{◌≡◌, ℕ, List, [], ◌∷◌, ◌++◌, cod
 use Rattle.std.specs.Fmt.{decimal}
 use Rattle.volume_model.specs.declared.finding.Verdict.TheVariants.{Clean, Finding}
 use Rattle.volume_model.specs.Texts.{verdict_text}
+use Rattle.drive_command.specs.Ending.{drive_status, drive_text}
 use Rattle.host_io.specs.declared.host.HostError.{HostError}
 use Rattle.host_io.specs.declared.host.HostError.TheVariants as hosts
 use Rattle.lufs_top.specs.Numbers.{name_of_number}
 use Rattle.lufs_top.specs.declared.ending.Ending.{Ending}
-use Rattle.lufs_top.specs.declared.ending.Ending.TheVariants.{Usage, Missing, DiskFault, NoMemory, Scan, Check, Mkfs}
+use Rattle.lufs_top.specs.declared.ending.Ending.TheVariants.{Usage, Missing, DiskFault, NoMemory, Scan, Check, Mkfs, Drive}
 use Rattle.lufs_top.specs.declared.scan.ScanEnding.{ScanEnding}
 use Rattle.lufs_top.specs.declared.scan.ScanEnding.TheVariants.{Listed, NotVolume, BadHeader, BadRun}
 use Rattle.lufs_top.specs.declared.check.CheckEnding.{CheckEnding}
@@ -40,6 +41,7 @@ status_of NoMemory = 12
 status_of (Scan volume ended) = scan_status ended
 status_of (Check volume ended) = check_status ended
 status_of (Mkfs ended) = mkfs_status ended
+status_of (Drive ended) = drive_status ended
 
 -- words and a name after them, as one line
 abbrev pub line_of : List ℕ → List ℕ → List ℕ
@@ -76,6 +78,7 @@ text_of NoMemory = codes "no memory\n"
 text_of (Scan volume ended) = scan_line volume.now ended
 text_of (Check volume ended) = check_line volume.now ended
 text_of (Mkfs ended) = mkfs_line ended
+text_of (Drive ended) = drive_text ended
 
 -- the ending tells of this error of the host, at this name
 abbrev pub IsRefusal : HostError → List ℕ → Ending → Type 0

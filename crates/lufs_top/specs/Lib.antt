@@ -7,3 +7,4 @@ pub mod Scan
 pub mod Check
 pub mod Mkfs
 pub mod Run
+pub mod Session

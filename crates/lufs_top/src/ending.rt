@@ -5,6 +5,7 @@ ghost use Rattle.lufs_top.specs.Ending.{status_of, IsRefusal};
 use crate::check::CheckEnding;
 use crate::mkfs::MkfsEnding;
 use crate::scan::ScanEnding;
+use drive_command::DriveEnding;
 use host_io::HostError;
 
 /// How a command ended, with the name of the volume where a line names it.
@@ -21,6 +22,7 @@ pub(crate) enum Ending<'a> {
     Scan { volume: &'a str, ended: ScanEnding },
     Check { volume: &'a str, ended: CheckEnding },
     Mkfs(MkfsEnding),
+    Drive(DriveEnding<'a>),
 }
 
 impl<'a> Ending<'a> {
@@ -47,6 +49,7 @@ impl<'a> Ending<'a> {
             Ending::Scan { ended, .. } => ended.status(),
             Ending::Check { ended, .. } => ended.status(),
             Ending::Mkfs(ended) => ended.status(),
+            Ending::Drive(ended) => ended.status(),
         }
     }
 }

@@ -7,8 +7,6 @@ mod mkfs;
 mod numbers;
 mod report;
 mod scan;
-#[cfg(test)]
-mod tests;
 mod top;
 mod words;
 

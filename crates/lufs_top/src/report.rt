@@ -128,6 +128,7 @@ fn put_ending<K: Sink>(out: &mut K, ending: &Ending<'_>) -> Result<(), SinkFault
         Ending::Scan { volume, ended } => put_scan(out, volume, ended),
         Ending::Check { volume, ended } => put_check(out, volume, ended),
         Ending::Mkfs(ended) => put_mkfs(out, ended),
+        Ending::Drive(ended) => drive_command::put_ending(out, ended),
     }
 }
 

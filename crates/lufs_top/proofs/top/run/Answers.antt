@@ -2,10 +2,12 @@ use Rattle.std.proofs.Common.{Option, Err, ap, subst}
 use Rattle.host_io.specs.Outside.{Outside}
 use Rattle.lufs_top.specs.Words.{Command, command_of}
 use Rattle.lufs_top.specs.Run.{Ran, Runs, no_output, ran}
-use Rattle.lufs_top.proofs.CommandSteps.{still_lent, taken_is_lent}
+use Rattle.lufs_top.proofs.CommandKeeps.{still_lent, taken_is_lent}
 use Rattle.lufs_top.proofs.RunClauses.{run_usage, run_no_command, run_statuses, run_asks, run_others}
-use Rattle.lufs_top.proofs.RunCauses.{run_back, run_causes}
+use Rattle.lufs_top.proofs.RunCauses.{run_causes}
+use Rattle.lufs_top.proofs.RunBack.{run_back}
 use Rattle.lufs_top.proofs.RunVerdict.{run_verdict}
+use Rattle.lufs_top.proofs.RunSession.{run_session}
 use Rattle.lufs_top.proofs.top.run.Goals as goal
 
 pub returns-in-Err : goal.returns-in-Err
@@ -25,12 +27,13 @@ returns-in-Err g c =
       others = run_others command _ old new run;
       back = run_back command _ old new run;
       verdict = run_verdict command _ old new run;
+      session = run_session command _ old new run;
     }
 
 pub give_sink-requires : goal.give_sink-requires
 give_sink-requires g c =
     let outside = g.H.Host.outside in
-    still_lent _ _ c.run_words-ending.result (outside c.take_sink.new.self) (outside c.run_words-ending.new.host) c.run_words-ending.ensures
+    still_lent _ c.run_words-ending.result (outside c.take_sink.new.self) (outside c.run_words-ending.new.host) c.run_words-ending.ensures
     (taken_is_lent _ (outside c.args.host.now) (outside c.take_sink.new.self) c.in-Ok.ensures.after)
 
 pub returns : goal.returns
@@ -53,4 +56,5 @@ returns g c =
       others = run_others command _ old new run;
       back = run_back command _ old new run;
       verdict = run_verdict command _ old new run;
+      session = run_session command _ old new run;
     }
