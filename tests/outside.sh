@@ -125,6 +125,39 @@ ends 'scan of a transaction that is cut off' 0 "$empty" scan cut
 ends 'check of it' 0 "$clean" check cut
 ends 'check of a change without a log' 7 'unsound inodebit 3' check unlogged
 
+echo '# a session'
+cp volume driven
+printf 'create /a 644\nstat /a\nlist /\n' >script
+printf 00000000 >turns
+moment=$(date +%s)
+ends 'drive of three lines' 0 'answered 3 left 0 commits 0 rolls 0' drive driven turns script
+is 'its replies' $'1 ok\n2 ok 3 file 644 1 0 0 0 M 0\n3 ok 1 end a' "$(sed -E 's/ 0 [0-9]{9,} 0$/ 0 M 0/' script.out)"
+is 'its history' $'session 2 M 1\nentry 0 1 3 0 0 0 a ok\nentry 0 2 - 0 0 0 a ok 3 file 644 1 0 0 0 M 0\nentry 0 3 - 0 0 0 a ok 1 end a' \
+    "$(sed -E 's/ [0-9]{9,} / M /' driven.history)"
+session=$(sed -n 's/^session 2 \([0-9]*\) 1$/\1/p' driven.history)
+is "the session's moment is now, in seconds" 1 $((session >= moment && session < moment + 60))
+ends 'check of what it left' 0 'clean inodes 2 blocks 1 free 61' check driven
+ends 'scan of it, in the next epoch' 0 $'epoch 2 head 0 tid 1 ring 255\ncommitted 0 sectors 0' scan driven
+: >nothing-to-do
+ends 'drive of an empty script' 0 'answered 0 left 0 commits 0 rolls 0' drive driven turns nothing-to-do
+same 'its replies are none' nothing-to-do nothing-to-do.out
+ends 'names that are the same' 1 usage drive driven turns turns
+ends 'no schedule' 2 'missing none' drive driven none script
+ends 'no script' 2 'missing none' drive driven turns none
+ends 'no volume' 2 'missing none' drive none turns script
+mkdir folder
+ends 'a schedule that is a directory' 3 'read fault folder' drive driven folder script
+truncate -s 1048577 long
+ends 'a schedule that is too long' 9 'over limit long 1048576' drive driven long script
+mkdir blocked.history
+cp driven blocked
+ends 'a history that cannot be made' 5 'reply fault blocked.history' drive blocked turns script
+same 'then the volume is as it was' driven blocked
+cp script unheard
+mkdir unheard.out
+ends 'replies that cannot be made' 5 'reply fault unheard.out' drive driven turns unheard
+same 'then the volume is as it was' driven blocked
+
 echo '# words'
 mkdir 'a folder'
 ends 'a name with spaces' 0 "$made" mkfs 'a folder/a  volume ' $numbers
