@@ -11,7 +11,7 @@ use Rattle.host_io.specs.Outside.{Outside, Holdings, SinkTold, after_ask, with_l
 use Rattle.host_io.specs.Places.{lent as lent_place}
 use Rattle.host_io.proofs.NamedLemmas.{with_place-name}
 use Rattle.drive_command.specs.declared.ending.DriveEnding.{DriveEnding}
-use Rattle.drive_command.specs.declared.mount.Refusal.{Refusal}
+use Rattle.drive_command.specs.declared.mount.MountError.{MountError}
 use Rattle.drive_command.specs.Ending.{history_name, out_name}
 use Rattle.drive_command.specs.Drive.{Start, IsSinkLent, SinksRan, no_names, no_history, no_replies, lent}
 
@@ -107,5 +107,5 @@ pub disk_keeps_moment : (name : List ℕ) (old new : Outside) → new ≡ after_
 disk_keeps_moment name old new is = ap (λ (o : Outside). o.moment) is
 
 -- the last call failed just where the refusal is this one
-pub fails_as : {T : Type 0} (why fault : Refusal) (before now : DiskTold) → FailsJustAt (IsErrOf {T = T} (Err why) fault) before now → FailsJustAt (why ≡ fault) before now
-fails_as why fault before now fails = record { failed = λ is. fails.failed (ap (λ (x : Refusal). Err x) is); none = λ other. fails.none (λ is. other (cc (is))) }
+pub fails_as : {T : Type 0} (why fault : MountError) (before now : DiskTold) → FailsJustAt (IsErrOf {T = T} (Err why) fault) before now → FailsJustAt (why ≡ fault) before now
+fails_as why fault before now fails = record { failed = λ is. fails.failed (ap (λ (x : MountError). Err x) is); none = λ other. fails.none (λ is. other (cc (is))) }

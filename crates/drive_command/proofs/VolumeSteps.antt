@@ -22,8 +22,8 @@ use Rattle.meta_store.specs.Laid.{laid_over}
 use Rattle.meta_store.specs.Index.{deltas_of, IsIndexOf}
 use Rattle.meta_store.proofs.LogLaid.{replay_laid, log_within}
 use Rattle.plain_image.specs.HomeBlocks.{HaveSameHomes}
-use Rattle.drive_command.specs.declared.mount.Refusal.{Refusal}
-use Rattle.drive_command.specs.declared.mount.Refusal.TheVariants as refusals
+use Rattle.drive_command.specs.declared.mount.MountError.{MountError}
+use Rattle.drive_command.specs.declared.mount.MountError.TheVariants as refusals
 use Rattle.drive_command.specs.Volume.{last_epoch, IsRefusalOf, IsHeaderRead, IsLogRead, HasBlocksOf, IsUnsound, IsMountOf, opening_of, unlisted, stopped}
 
 -- what follows from what holds of the content
@@ -56,7 +56,7 @@ unwritten_twice a b c first second = record {
 }
 
 -- the volume is refused by its header
-pub header_refused : (g : Geometry) (image : Image) (why : Refusal) → IsHeaderRead g image (Err why) → IsLogRead g image (Err why)
+pub header_refused : (g : Geometry) (image : Image) (why : MountError) → IsHeaderRead g image (Err why) → IsLogRead g image (Err why)
 header_refused g image refusals.NotVolume is = absurd is
 header_refused g image refusals.BadHeader is = λ geometry. (g, geometry, is)
 header_refused g image refusals.EpochSpent is = λ geometry. (g, is.0, transactions_of g is.0 image, record { geometry = geometry; log = is.1 }, is.2)
@@ -118,7 +118,7 @@ verdict_found image g h txs verdict geometry log is =
     ∙ ap (λ (v : Verdict). Some v) is
 
 -- the volume is refused by the content that was read of it
-pub content_refused : (image : Image) (g : Geometry) (h : Header) (txs : List Tx) (content : Image) (why : Refusal) → h.epoch < last_epoch
+pub content_refused : (image : Image) (g : Geometry) (h : Header) (txs : List Tx) (content : Image) (why : MountError) → h.epoch < last_epoch
     → geometry_of image ≡ Some g → log_of g image ≡ WithHeader h (Listed txs) → verdict_of g (block (replayed image txs)) ≡ verdict_of g (block content)
     → IsUnsound g content why → IsRefusalOf image why
 content_refused image g h txs content refusals.NotVolume early geometry log same is = absurd is
@@ -131,8 +131,8 @@ content_refused image g h txs content refusals.Disk early geometry log same is =
 content_refused image g h txs content refusals.Mem early geometry log same is = tt
 
 -- what is unsound is no fault of the disk
-pub unsound_is_no_fault : (g : Geometry) (content : Image) (why : Refusal) → IsUnsound g content why → ¬ (why ≡ refusals.Disk)
-unsound_is_no_fault g content why is fault = subst (λ (x : Refusal). IsUnsound g content x) fault is
+pub unsound_is_no_fault : (g : Geometry) (content : Image) (why : MountError) → IsUnsound g content why → ¬ (why ≡ refusals.Disk)
+unsound_is_no_fault g content why is fault = subst (λ (x : MountError). IsUnsound g content x) fault is
 
 -- a read that stopped says nothing of the image
 pub stop_says_nothing : (present : Option Image) (error : StoreError) → IfSome present (λ image. IsRefusalOf image (stopped error))

@@ -24,8 +24,8 @@ use Rattle.host_io.specs.declared.host.AskAnswer.TheVariants.{Given}
 use Rattle.host_io.specs.Outside.{Outside, disk_of, refused_with, after_ask, with_disk}
 use Rattle.drive_command.specs.declared.ending.DriveEnding.{DriveEnding}
 use Rattle.drive_command.specs.declared.ending.DriveEnding.TheVariants as ends
-use Rattle.drive_command.specs.declared.mount.Refusal.{Refusal}
-use Rattle.drive_command.specs.declared.mount.Refusal.TheVariants.{NotVolume, BadHeader, EpochSpent, BadLog, Unsound, Disk, Mem}
+use Rattle.drive_command.specs.declared.mount.MountError.{MountError}
+use Rattle.drive_command.specs.declared.mount.MountError.TheVariants.{NotVolume, BadHeader, EpochSpent, BadLog, Unsound, Disk, Mem}
 
 -- the epoch after which there is none
 abbrev pub last_epoch : ℕ
@@ -45,7 +45,7 @@ pub record HasLog (image : Image) (g : Geometry) (h : Header) (txs : Transaction
 
 -- What is said against the image is true of it, and nothing that is looked at before is. A failed read and lack of memory
 -- say nothing of it.
-abbrev pub IsRefusalOf : Image → Refusal → Type 0
+abbrev pub IsRefusalOf : Image → MountError → Type 0
 IsRefusalOf image NotVolume = geometry_of image ≡ None
 IsRefusalOf image BadHeader = (g : Geometry) × (geometry_of image ≡ Some g) × (log_of g image ≡ NoHeader)
 IsRefusalOf image EpochSpent = (g : Geometry) × (h : Header) × (txs : Transactions) × HasLog image g h txs × (h.epoch ≡ last_epoch)
@@ -56,7 +56,7 @@ IsRefusalOf image Disk = Unit {0}
 IsRefusalOf image Mem = Unit {0}
 
 -- the ending tells why the volume of this name was refused
-abbrev pub TellsRefusal : Refusal → (volume : List ℕ) → DriveEnding → Type 0
+abbrev pub TellsRefusal : MountError → (volume : List ℕ) → DriveEnding → Type 0
 TellsRefusal NotVolume volume (ends.NotVolume at) = at.now ≡ volume
 TellsRefusal BadHeader volume ends.BadHeader = Unit {0}
 TellsRefusal EpochSpent volume (ends.EpochSpent at) = at.now ≡ volume
@@ -77,7 +77,7 @@ pub data VolumeStops (volume : List ℕ) (ending : DriveEnding) (old new : Outsi
   not_lent : (error : HostError) → IsDiskRefusal error volume ending → (error ≡ hosts.Missing → disk_of old volume ≡ None)
       → new ≡ after_ask TakeDisk volume (refused_with error) old → VolumeStops volume ending old new
   -- The disk was read, and its volume refused: for a fault of the disk just where one of its calls failed, the last one.
-  refused : (before now : DiskTold) (lent : Outside) → IsDiskLent volume before old lent → (why : Refusal) → TellsRefusal why volume ending
+  refused : (before now : DiskTold) (lent : Outside) → IsDiskLent volume before old lent → (why : MountError) → TellsRefusal why volume ending
       → IfSome before.present (λ image. IsRefusalOf image why) → IsUnwritten before now → FailsJustAt (why ≡ Disk) before now
       → new ≡ with_disk volume now lent → VolumeStops volume ending old new
 
@@ -103,7 +103,7 @@ pub record IsMounted (g : Geometry) (h : Header) (content : Image) (before now :
   pub none_failed : NoneFailed before now
 
 -- the header of the log of this image, or that it has none or one of the last epoch
-abbrev pub IsHeaderRead : Geometry → Image → Result Header Refusal → Type 0
+abbrev pub IsHeaderRead : Geometry → Image → Result Header MountError → Type 0
 IsHeaderRead g image (Ok h) = log_of g image ≡ WithHeader h (transactions_of g h image)
 IsHeaderRead g image (Err BadHeader) = log_of g image ≡ NoHeader
 IsHeaderRead g image (Err EpochSpent) = (h : Header) × (log_of g image ≡ WithHeader h (transactions_of g h image)) × (h.epoch ≡ last_epoch)
@@ -111,7 +111,7 @@ IsHeaderRead g image (Err Disk) = Unit {0}
 IsHeaderRead g image (Err other) = ⊥
 
 -- the log of this image, or why it can't be replayed
-abbrev pub IsLogRead : Geometry → Image → Result (Header × List Tx) Refusal → Type 0
+abbrev pub IsLogRead : Geometry → Image → Result (Header × List Tx) MountError → Type 0
 IsLogRead g image (Ok read) = log_of g image ≡ WithHeader read.0 (Listed read.1)
 IsLogRead g image (Err why) = geometry_of image ≡ Some g → IsRefusalOf image why
 
@@ -120,22 +120,22 @@ abbrev pub HasBlocksOf : Geometry → (content there : Image) → Type 0
 HasBlocksOf g content there = (b : ℕ) → b < blocks_of g → block content b ≡ block there b
 
 -- what a check of the content answers, where it isn't sound
-abbrev pub IsUnsound : Geometry → Image → Refusal → Type 0
+abbrev pub IsUnsound : Geometry → Image → MountError → Type 0
 IsUnsound g content (Unsound kind number) = verdict_of g (block content) ≡ Finding kind number
 IsUnsound g content Mem = Unit {0}
 IsUnsound g content other = ⊥
 
 -- why a session has no volume, by what reading it answers
-abbrev pub no_geometry : GeometryError → Refusal
+abbrev pub no_geometry : GeometryError → MountError
 no_geometry geometries.NotVolume = NotVolume
 no_geometry geometries.Disk = Disk
 
-abbrev pub unlisted : ScanError → Refusal
+abbrev pub unlisted : ScanError → MountError
 unlisted scans.Disk = Disk
 unlisted scans.BadHeader = BadHeader
 unlisted (scans.BadLog tid place) = BadLog tid place
 unlisted scans.Mem = Mem
 
-abbrev pub stopped : StoreError → Refusal
+abbrev pub stopped : StoreError → MountError
 stopped stores.Disk = Disk
 stopped stores.Mem = Mem

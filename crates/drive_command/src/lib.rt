@@ -11,6 +11,6 @@ mod sources;
 
 pub use drive::drive_named;
 pub use ending::{DriveEnding, SinkName};
-pub use mount::Refusal;
+pub use mount::MountError;
 pub use put::put_ending;
 pub use session::Kept;

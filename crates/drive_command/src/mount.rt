@@ -22,7 +22,7 @@ use volume_model::{Kind, Verdict};
 
 /// Why a session has no volume, though its disk was lent.
 #[derive(Clone, Copy, Debug, PartialEq, Eq)]
-pub enum Refusal {
+pub enum MountError {
     /// The disk holds no volume.
     NotVolume,
     /// The volume has no log header.
@@ -59,63 +59,67 @@ pub(crate) fn disk_refused(error: HostError, name: &str) -> DriveEnding<'_>
 }
 
 /// The ending where the volume of that name was refused.
-pub(crate) fn refused(why: Refusal, volume: &str) -> DriveEnding<'_>
+pub(crate) fn refused(why: MountError, volume: &str) -> DriveEnding<'_>
     ensures { TellsRefusal why volume.now result }
 {
     match why {
-        Refusal::NotVolume => DriveEnding::NotVolume(volume),
-        Refusal::BadHeader => DriveEnding::BadHeader,
-        Refusal::EpochSpent => DriveEnding::EpochSpent(volume),
-        Refusal::BadLog { tid, place } => DriveEnding::BadLog { tid, place },
-        Refusal::Unsound(kind, number) => DriveEnding::Unsound(kind, number),
-        Refusal::Disk => DriveEnding::DiskFault(volume),
-        Refusal::Mem => DriveEnding::NoMemory,
+        MountError::NotVolume => DriveEnding::NotVolume(volume),
+        MountError::BadHeader => DriveEnding::BadHeader,
+        MountError::EpochSpent => DriveEnding::EpochSpent(volume),
+        MountError::BadLog { tid, place } => DriveEnding::BadLog { tid, place },
+        MountError::Unsound(kind, number) => DriveEnding::Unsound(kind, number),
+        MountError::Disk => DriveEnding::DiskFault(volume),
+        MountError::Mem => DriveEnding::NoMemory,
     }
 }
 
 // Reads the header of the log, which is to be of an epoch before the last one.
-fn read_log_header<D: Disk>(disk: &mut D, g: &Geometry) -> Result<Header, Refusal>
+fn read_log_header<D: Disk>(disk: &mut D, g: &Geometry) -> Result<Header, MountError>
     requires geometry { IsGeometry g.now }
     requires disk { 8 * blocks_of g.now ≤ (D.told disk.old).sectors }
     ensures header { IfSome (D.told disk.old).present (λ image. IsHeaderRead g.now image result) }
     ensures epoch { IfOk result (λ h. h.epoch < last_epoch) }
     ensures unwritten { IsUnwritten (D.told disk.old) (D.told disk.new) }
-    ensures failure { FailsJustAt (IsErrOf result Refusal.Disk) (D.told disk.old) (D.told disk.new) }
+    ensures failure { FailsJustAt (IsErrOf result MountError.Disk) (D.told disk.old) (D.told disk.new) }
 {
     let mut sector = [0u8; SECTOR];
     let Ok(()) = disk.read(g.header_sector(), &mut sector) else {
-        return Err(Refusal::Disk);
+        return Err(MountError::Disk);
     };
     let header = match read_header(g, &sector) {
         Ok(header) => header,
-        Err(_) => return Err(Refusal::BadHeader),
+        Err(_) => return Err(MountError::BadHeader),
     };
     if header.epoch == u32::MAX {
-        return Err(Refusal::EpochSpent);
+        return Err(MountError::EpochSpent);
     }
     Ok(header)
 }
 
 // Why a session has no volume whose log gave this error.
-fn unlisted(error: ScanError) -> Refusal
+fn unlisted(error: ScanError) -> MountError
     ensures { result ≡ unlisted error }
 {
     match error {
-        ScanError::Disk => Refusal::Disk,
-        ScanError::BadHeader => Refusal::BadHeader,
-        ScanError::BadLog { tid, place } => Refusal::BadLog { tid, place },
-        ScanError::Mem => Refusal::Mem,
+        ScanError::Disk => MountError::Disk,
+        ScanError::BadHeader => MountError::BadHeader,
+        ScanError::BadLog { tid, place } => MountError::BadLog { tid, place },
+        ScanError::Mem => MountError::Mem,
     }
 }
 
 // Reads the log: its header first, and its transactions only if their epoch isn't the last one.
-fn read_log<D: Disk>(alloc: Global, disk: &mut D, g: &Geometry) -> Result<(Header, TxList), Refusal>
+fn read_log<D: Disk>(
+    alloc: Global,
+    disk: &mut D,
+    g: &Geometry,
+) -> Result<(Header, TxList), MountError>
     requires geometry { IsGeometry g.now }
     requires disk { 8 * blocks_of g.now ≤ (D.told disk.old).sectors }
     ensures log { IfSome (D.told disk.old).present (λ image. IsLogRead g.now image result) }
     ensures epoch { IfOk result (λ read. read.0.epoch < last_epoch) }
     ensures unwritten { IsUnwritten (D.told disk.old) (D.told disk.new) }
-    ensures failure { FailsJustAt (IsErrOf result Refusal.Disk) (D.told disk.old) (D.told disk.new) }
+    ensures failure { FailsJustAt (IsErrOf result MountError.Disk) (D.told disk.old) (D.told disk.new) }
 {
     let header = match read_log_header(disk, g) {
         Ok(header) => header,
@@ -152,7 +156,7 @@ fn read_content<D: Disk>(
 }
 
 // Checks the content of a volume in memory. It has no disk, so only memory may be wanting.
-fn checked(alloc: Global, g: &Geometry, content: Vec<u8>) -> Result<PlainStore, Refusal>
+fn checked(alloc: Global, g: &Geometry, content: Vec<u8>) -> Result<PlainStore, MountError>
     requires geometry { IsGeometry g.now }
     requires size { 4096 * blocks_of g.now ≤ length content.items }
     ensures sound { IfOk result (λ store. Sound g.now (block content.items) []) }
@@ -163,37 +167,37 @@ fn checked(alloc: Global, g: &Geometry, content: Vec<u8>) -> Result<PlainStore, 
     let mut store = PlainStore::new(g, content);
     match check(alloc, &mut store) {
         Ok(Verdict::Clean(_)) => Ok(store),
-        Ok(Verdict::Finding(kind, number)) => Err(Refusal::Unsound(kind, number)),
-        Err(_) => Err(Refusal::Mem),
+        Ok(Verdict::Finding(kind, number)) => Err(MountError::Unsound(kind, number)),
+        Err(_) => Err(MountError::Mem),
     }
 }
 
-fn stopped(error: StoreError) -> Refusal
+fn stopped(error: StoreError) -> MountError
     ensures { result ≡ stopped error }
 {
     match error {
-        StoreError::Disk => Refusal::Disk,
-        StoreError::Mem => Refusal::Mem,
+        StoreError::Disk => MountError::Disk,
+        StoreError::Mem => MountError::Mem,
     }
 }
 
-fn no_geometry(error: GeometryError) -> Refusal
+fn no_geometry(error: GeometryError) -> MountError
     ensures { result ≡ no_geometry error }
 {
     match error {
-        GeometryError::NotVolume => Refusal::NotVolume,
-        GeometryError::Disk => Refusal::Disk,
+        GeometryError::NotVolume => MountError::NotVolume,
+        GeometryError::Disk => MountError::Disk,
     }
 }
 
 /// Reads the volume on a disk and checks it, and gives the disk back: first the superblock, then the header of the log,
 /// its transactions, and the content that they leave.
-pub(crate) fn mount<D: Disk>(alloc: Global, mut disk: D) -> (D, Result<Mounted, Refusal>)
+pub(crate) fn mount<D: Disk>(alloc: Global, mut disk: D) -> (D, Result<Mounted, MountError>)
     ensures mounted { IfOk result.1 (λ m. (content : Image) × ((⟦<PlainStore as MetaRead>⟧.store m.store).geometry ≡ m.geometry)
         × ((⟦<PlainStore as MetaRead>⟧.store m.store).content ≡ Some content) × IsMounted m.geometry m.header content (D.told disk) (D.told result.0)) }
     ensures refused { IfErr result.1 (λ why. IfSome (D.told disk).present (λ image. IsRefusalOf image why)) }
     ensures unwritten { IsUnwritten (D.told disk) (D.told result.0) }
-    ensures failure { FailsJustAt (IsErrOf result.1 Refusal.Disk) (D.told disk) (D.told result.0) }
+    ensures failure { FailsJustAt (IsErrOf result.1 MountError.Disk) (D.told disk) (D.told result.0) }
 {
     let geometry = match read_geometry(&mut disk) {
         Ok(geometry) => geometry,

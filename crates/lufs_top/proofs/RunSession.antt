@@ -31,8 +31,8 @@ use Rattle.plain_session.specs.ServedLines.{served_line, turns_in, entered_in, t
 use Rattle.plain_session.specs.Sessions.{HasToldAll, HasLostReply, told_texts, AreFirstTold, AreAnswered}
 use Rattle.drive_command.specs.declared.ending.DriveEnding.{DriveEnding}
 use Rattle.drive_command.specs.declared.ending.DriveEnding.TheVariants as ends
-use Rattle.drive_command.specs.declared.mount.Refusal.{Refusal}
-use Rattle.drive_command.specs.declared.mount.Refusal.TheVariants as refusals
+use Rattle.drive_command.specs.declared.mount.MountError.{MountError}
+use Rattle.drive_command.specs.declared.mount.MountError.TheVariants as refusals
 use Rattle.drive_command.specs.declared.session.Kept.{Kept}
 use Rattle.drive_command.specs.declared.session.Kept.TheVariants as kepts
 use Rattle.drive_command.specs.Ending.{history_name, out_name, drive_status, drive_text}
@@ -124,7 +124,7 @@ script_early name ending old new (no_source stops) = stopped_early name _ ending
 script_early name ending old new (no_lines text error read is many) = unparted_early error name ending is
 
 -- what a refusal tells of the image
-refusal_says : (why : Refusal) (volume : List ℕ) (ending : DriveEnding) → TellsRefusal why volume ending → (image : Image) → IsRefusalOf image why → SaysOf image (drive_status ending)
+refusal_says : (why : MountError) (volume : List ℕ) (ending : DriveEnding) → TellsRefusal why volume ending → (image : Image) → IsRefusalOf image why → SaysOf image (drive_status ending)
 refusal_says refusals.NotVolume volume (ends.NotVolume at) tells image is = record { not_done = λ is. omega (arith, is); not_volume = λ _. is; unsound = λ is. absurd (omega (arith, is)); spent = λ is. absurd (omega (arith, is)); bad_log = λ is. absurd (omega (arith, is)) }
 refusal_says refusals.BadHeader volume ends.BadHeader tells image is = record { not_done = λ is. omega (arith, is); not_volume = λ is. absurd (omega (arith, is)); unsound = λ is. absurd (omega (arith, is)); spent = λ is. absurd (omega (arith, is)); bad_log = λ _. (is.0, is.1, inl is.2) }
 refusal_says refusals.EpochSpent volume (ends.EpochSpent at) tells image is = record { not_done = λ is. omega (arith, is); not_volume = λ is. absurd (omega (arith, is)); unsound = λ is. absurd (omega (arith, is)); spent = λ _. (is.0, is.1, is.2, is.3.geometry, is.3.log, is.4); bad_log = λ is. absurd (omega (arith, is)) }

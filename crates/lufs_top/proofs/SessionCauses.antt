@@ -21,8 +21,8 @@ use Rattle.lufs_base.specs.declared.errors.DiskFault.{DiskFault}
 use Rattle.tree_types.specs.declared.history.Entry.{Entry}
 use Rattle.drive_command.specs.declared.ending.DriveEnding.{DriveEnding}
 use Rattle.drive_command.specs.declared.ending.DriveEnding.TheVariants as ends
-use Rattle.drive_command.specs.declared.mount.Refusal.{Refusal}
-use Rattle.drive_command.specs.declared.mount.Refusal.TheVariants as refusals
+use Rattle.drive_command.specs.declared.mount.MountError.{MountError}
+use Rattle.drive_command.specs.declared.mount.MountError.TheVariants as refusals
 use Rattle.drive_command.specs.declared.session.Kept.{Kept}
 use Rattle.drive_command.specs.declared.session.Kept.TheVariants as kepts
 use Rattle.drive_command.specs.Ending.{history_name, out_name, drive_status}
@@ -180,7 +180,7 @@ disk_refusal_not_reply hosts.Failed name (ends.ReplyFault at) is tells = is
 disk_refusal_not_reply hosts.Mem name (ends.ReplyFault at) is tells = is
 disk_refusal_not_reply error name ending is tells = tells
 
-refusal_not_missing : (error : Refusal) (name : List ℕ) (ending : DriveEnding) → TellsRefusal error name ending → TellsMissing ending → ⊥
+refusal_not_missing : (error : MountError) (name : List ℕ) (ending : DriveEnding) → TellsRefusal error name ending → TellsMissing ending → ⊥
 refusal_not_missing refusals.NotVolume name (ends.Missing at) is tells = is
 refusal_not_missing refusals.BadHeader name (ends.Missing at) is tells = is
 refusal_not_missing refusals.EpochSpent name (ends.Missing at) is tells = is
@@ -190,7 +190,7 @@ refusal_not_missing refusals.Disk name (ends.Missing at) is tells = is
 refusal_not_missing refusals.Mem name (ends.Missing at) is tells = is
 refusal_not_missing error name ending is tells = tells
 
-refusal_not_read : (error : Refusal) (name : List ℕ) (ending : DriveEnding) → TellsRefusal error name ending → TellsReadFault ending → ⊥
+refusal_not_read : (error : MountError) (name : List ℕ) (ending : DriveEnding) → TellsRefusal error name ending → TellsReadFault ending → ⊥
 refusal_not_read refusals.NotVolume name (ends.ReadFault at) is tells = is
 refusal_not_read refusals.BadHeader name (ends.ReadFault at) is tells = is
 refusal_not_read refusals.EpochSpent name (ends.ReadFault at) is tells = is
@@ -200,7 +200,7 @@ refusal_not_read refusals.Disk name (ends.ReadFault at) is tells = is
 refusal_not_read refusals.Mem name (ends.ReadFault at) is tells = is
 refusal_not_read error name ending is tells = tells
 
-refusal_not_reply : (error : Refusal) (name : List ℕ) (ending : DriveEnding) → TellsRefusal error name ending → TellsReply ending → ⊥
+refusal_not_reply : (error : MountError) (name : List ℕ) (ending : DriveEnding) → TellsRefusal error name ending → TellsReply ending → ⊥
 refusal_not_reply refusals.NotVolume name (ends.ReplyFault at) is tells = is
 refusal_not_reply refusals.BadHeader name (ends.ReplyFault at) is tells = is
 refusal_not_reply refusals.EpochSpent name (ends.ReplyFault at) is tells = is
@@ -252,7 +252,7 @@ disk_refusal_disk hosts.Failed name (ends.DiskFault at) is tells = refl
 disk_refusal_disk hosts.Mem name (ends.DiskFault at) is tells = absurd is
 disk_refusal_disk error name ending is tells = absurd tells
 
-refusal_disk : (error : Refusal) (name : List ℕ) (ending : DriveEnding) → TellsRefusal error name ending → TellsDisk ending → error ≡ refusals.Disk
+refusal_disk : (error : MountError) (name : List ℕ) (ending : DriveEnding) → TellsRefusal error name ending → TellsDisk ending → error ≡ refusals.Disk
 refusal_disk refusals.NotVolume name (ends.DiskFault at) is tells = absurd is
 refusal_disk refusals.BadHeader name (ends.DiskFault at) is tells = absurd is
 refusal_disk refusals.EpochSpent name (ends.DiskFault at) is tells = absurd is

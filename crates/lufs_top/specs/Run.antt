@@ -27,9 +27,9 @@ use Rattle.drive_command.specs.Ending.{history_name, out_name}
 use Rattle.drive_command.specs.Drive.{DriveRan}
 
 -- the ending is one of a session
-abbrev pub SessionRan : (volume schedule script : List ℕ) → Ending → Outside → Outside → Type 0
-SessionRan volume schedule script (Drive ended) old new = DriveRan volume schedule script ended old new
-SessionRan volume schedule script ending old new = ⊥
+abbrev pub DriveEndedSo : (volume schedule script : List ℕ) → Ending → Outside → Outside → Type 0
+DriveEndedSo volume schedule script (Drive ended) old new = DriveRan volume schedule script ended old new
+DriveEndedSo volume schedule script ending old new = ⊥
 
 -- how a command ended, and what it did to the outside: a line a command
 abbrev pub Ran : Option Command → Ending → Outside → Outside → Type 0
@@ -37,7 +37,7 @@ Ran None ending old new = (ending ≡ Usage) × (new ≡ old)
 Ran (Some (scan volume)) ending old new = ScanRan volume ending old new
 Ran (Some (check volume)) ending old new = CheckRan volume ending old new
 Ran (Some (mkfs volume numbers)) ending old new = MkfsRan volume numbers ending old new
-Ran (Some (drive volume schedule script)) ending old new = SessionRan volume schedule script ending old new
+Ran (Some (drive volume schedule script)) ending old new = DriveEndedSo volume schedule script ending old new
 
 -- the status where a put failed: success is told as a fault of the reply
 abbrev pub status_if_cut : ℕ → ℕ

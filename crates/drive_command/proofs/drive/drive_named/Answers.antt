@@ -3,8 +3,8 @@ use Rattle.std.specs.Prelude.{IfSome, IfOk, IfErr, IsErrOf}
 use Rattle.volume_model.specs.Format.{Image}
 use Rattle.sector_disk.specs.Disk.{FailsJustAt}
 use Rattle.drive_command.specs.declared.mount.Mounted.{Mounted}
-use Rattle.drive_command.specs.declared.mount.Refusal.{Refusal}
-use Rattle.drive_command.specs.declared.mount.Refusal.TheVariants as refusals
+use Rattle.drive_command.specs.declared.mount.MountError.{MountError}
+use Rattle.drive_command.specs.declared.mount.MountError.TheVariants as refusals
 use Rattle.drive_command.specs.Volume.{IsRefusalOf, IsMounted, not_lent, refused}
 use Rattle.plain_session.specs.ServedLines.{turns_in}
 use Rattle.drive_command.specs.Drive.{Start, no_schedule, no_script, no_volume, opened}
@@ -31,7 +31,7 @@ give_disk-requires g c =
     let m = c.in-Ok-mounted.mounted in
     let before = told c.in-Ok-take_disk.disk in
     let now = told c.mount-disk.result.0 in
-    let mounted = subst (λ (r : Result Mounted Refusal). IfOk r (λ x. (content : Image) × (x.store.geometry ≡ x.geometry) × (Some x.store.image.items ≡ Some content) × IsMounted x.geometry x.header content before now))
+    let mounted = subst (λ (r : Result Mounted MountError). IfOk r (λ x. (content : Image) × (x.store.geometry ≡ x.geometry) × (Some x.store.image.items ≡ Some content) × IsMounted x.geometry x.header content before now))
     c.in-Ok-mounted.is c.mount-disk.ensures.mounted in
     let s : Start = record { geometry = m.geometry; header = m.header; content = mounted.0; moment = c.moment-moment.result; schedule = c.in-Ok.schedule; script = read.0 } in
     disk_still_lent c.args.volume.now c.args.script.now s c.with_sinks-ending.result now (told c.with_sinks-ending.new.disk) c.args.volume.now (outside c.read_script.new.host) (outside c.moment-moment.new.self) (outside c.with_sinks-ending.new.host)
@@ -46,7 +46,7 @@ returns-in-Ok-mounted g c =
     let m = c.in-Ok-mounted.mounted in
     let before = told c.in-Ok-take_disk.disk in
     let now = told c.mount-disk.result.0 in
-    let mounted = subst (λ (r : Result Mounted Refusal). IfOk r (λ x. (content : Image) × (x.store.geometry ≡ x.geometry) × (Some x.store.image.items ≡ Some content) × IsMounted x.geometry x.header content before now))
+    let mounted = subst (λ (r : Result Mounted MountError). IfOk r (λ x. (content : Image) × (x.store.geometry ≡ x.geometry) × (Some x.store.image.items ≡ Some content) × IsMounted x.geometry x.header content before now))
     c.in-Ok-mounted.is c.mount-disk.ensures.mounted in
     let s : Start = record { geometry = m.geometry; header = m.header; content = mounted.0; moment = c.moment-moment.result; schedule = c.in-Ok.schedule; script = read.0 } in
     let old = outside c.args.host.now in
@@ -79,7 +79,7 @@ returns-in-Err-mounted g c =
     let now = told c.mount-disk.result.0 in
     no_volume c.in-Ok.schedule read.0 (outside c.read_source.new.host) (outside c.read_script.new.host) c.in-Ok.ensures read.1
     (refused before now (outside c.take_disk.new.self) (record { given = c.in-Ok-take_disk.ensures.given; after = c.in-Ok-take_disk.ensures.after }) why c.refused.ensures
-    (subst (λ (r : Result Mounted Refusal). IfErr r (λ x. IfSome before.present (λ image. IsRefusalOf image x))) c.in-Err-mounted.is c.mount-disk.ensures.refused)
+    (subst (λ (r : Result Mounted MountError). IfErr r (λ x. IfSome before.present (λ image. IsRefusalOf image x))) c.in-Err-mounted.is c.mount-disk.ensures.refused)
     c.mount-disk.ensures.unwritten
-    (fails_as {T = Mounted} why refusals.Disk before now (subst (λ (r : Result Mounted Refusal). FailsJustAt (IsErrOf r refusals.Disk) before now) c.in-Err-mounted.is c.mount-disk.ensures.failure))
+    (fails_as {T = Mounted} why refusals.Disk before now (subst (λ (r : Result Mounted MountError). FailsJustAt (IsErrOf r refusals.Disk) before now) c.in-Err-mounted.is c.mount-disk.ensures.failure))
     c.give_disk-in-Err-mounted.ensures)

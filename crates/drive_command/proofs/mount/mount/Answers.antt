@@ -7,7 +7,7 @@ use Rattle.volume_model.specs.Log.{WithHeader, Listed, log_of, replayed}
 use Rattle.sector_disk.specs.Disk.{FailsJustAt}
 use Rattle.meta_store.specs.declared.error.StoreError.{StoreError}
 use Rattle.meta_store.specs.declared.error.StoreError.TheVariants as stores
-use Rattle.drive_command.specs.declared.mount.Refusal.{Refusal}
+use Rattle.drive_command.specs.declared.mount.MountError.{MountError}
 use Rattle.drive_command.specs.Volume.{IsRefusalOf, IsLogRead, IsMountOf, HasBlocksOf, opening_of}
 use Rattle.drive_command.proofs.VolumeSteps.{if_then, if_both, stop_says_nothing, none_twice, unwritten_twice, IsKnown, known, same_homes_as, mount_of, content_refused}
 use Rattle.plain_image.proofs.SameHomes.{stands_too}
@@ -24,7 +24,7 @@ returns-in-Err-read_log-clause-refused g c =
 
 pub returns-in-Err-content-clause-refused : goal.returns-in-Err-content-clause-refused
 returns-in-Err-content-clause-refused g c =
-    subst (λ (why : Refusal). IfSome (g.D.Disk.told c.args.disk).present (λ image. IsRefusalOf image why)) (sym c.stopped.ensures)
+    subst (λ (why : MountError). IfSome (g.D.Disk.told c.args.disk).present (λ image. IsRefusalOf image why)) (sym c.stopped.ensures)
     (stop_says_nothing (g.D.Disk.told c.args.disk).present c.in-Err-content.error)
 
 pub returns-in-Ok-checked-clause-mounted : goal.returns-in-Ok-checked-clause-mounted
