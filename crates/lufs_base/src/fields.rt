@@ -66,7 +66,12 @@ pub fn clear(out: &mut [u8])
 pub fn are_zeros(bytes: &[u8]) -> bool
     ensures { result ≡ are_zeros bytes.now }
 {
-    bytes.iter().all(|b| *b == 0)
+    let mut are = true;
+    // None ends the loop early, so that sixteen are looked at at once.
+    for b in bytes {
+        are &= *b == 0;
+    }
+    are
 }
 
 /// Two fields of one width with the same number have the same bytes.
