@@ -1,3 +1,4 @@
+pub mod BodyPlaces
 pub mod Order
 pub mod RunSteps
 pub mod Placed

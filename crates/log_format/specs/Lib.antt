@@ -1,3 +1,4 @@
+pub mod BodyHomes
 pub mod InOrder
 pub mod Heads
 pub mod Answers

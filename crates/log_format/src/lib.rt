@@ -7,6 +7,7 @@
 //! keeps those of the record that isn't whole yet, at most 4112 and a piece.
 #![tactic(auto)]
 
+mod bodies;
 mod header;
 mod kinds;
 mod records;

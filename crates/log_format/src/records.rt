@@ -61,8 +61,8 @@ enum Front {
     Wrong,
 }
 
-// Whether deltas of a kind lie on such blocks.
-fn is_home_of(kind: DeltaKind, region: Region) -> bool
+/// Whether deltas of a kind lie on such blocks.
+pub(crate) fn is_home_of(kind: DeltaKind, region: Region) -> bool
     ensures { result ≡ is_home_of kind region }
 {
     match kind {
@@ -72,8 +72,8 @@ fn is_home_of(kind: DeltaKind, region: Region) -> bool
     }
 }
 
-// Whether a delta of a kind may lie at this place of its block, with this length.
-fn is_part_of_block(kind: DeltaKind, place: u32, len: u32) -> bool
+/// Whether a delta of a kind may lie at this place of its block, with this length.
+pub(crate) fn is_part_of_block(kind: DeltaKind, place: u32, len: u32) -> bool
     requires { place < 4096 }
     ensures { result ≡ is_part_of_block kind place len }
 {
@@ -90,7 +90,7 @@ fn is_part_of_block(kind: DeltaKind, place: u32, len: u32) -> bool
 
 // Whether a delta of this kind may have this home and this length.
 #[tactic(auto, unfolding(volume_model::specs::Log::LogRecord::may_be_logged))]
-pub(crate) fn may_be_logged(g: &Geometry, kind: DeltaKind, home: u64, len: u32) -> bool
+fn may_be_logged(g: &Geometry, kind: DeltaKind, home: u64, len: u32) -> bool
     requires { IsGeometry g.now }
     ensures { result ≡ may_be_logged g.now kind home len }
 {

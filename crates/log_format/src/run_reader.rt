@@ -6,12 +6,14 @@ ghost use Rattle.lufs_base.specs.declared.geometry.Geometry.{Geometry};
 ghost use Rattle.lufs_base.specs.declared.delta.Delta.{Delta};
 ghost use Rattle.volume_model.specs.Log.{front_of, run_of};
 ghost use Rattle.log_format.specs.declared.records.RunError.TheVariants.{Bad};
+ghost use Rattle.log_format.specs.BodyHomes.{AreInBodies};
 ghost use Rattle.log_format.specs.Heads.{may_follow};
 ghost use Rattle.log_format.specs.RunReading.{IsTally, IsFound, FitsIn, IsCounted, HasSkipped, StopsAt, IsBadAfter, HasRead, HasReadMore, IsBadWith, IsTotal, bytes_read};
 
 use crate::RunError;
+use crate::bodies::BodyHomes;
 use crate::kinds::{COMMIT, HEAD, kind_of, logged_len};
-use crate::records::{RecordHead, is_commit, may_be_logged, may_precede};
+use crate::records::{RecordHead, is_commit, may_precede};
 use lufs_base::{DeltaKind, Geometry, get_u32, get_u64};
 use std::alloc::Global;
 
@@ -47,9 +49,11 @@ fn may_follow(last: Option<RecordHead>, kind: DeltaKind, home: u64) -> bool
     }
 }
 
-// What stands at the front of the bytes, after deltas of this tally.
-fn find_front(g: &Geometry, tid: u64, tally: &Tally, bytes: &[u8]) -> Found
-    requires { IsGeometry g.now }
+// What stands at the front of the bytes, after deltas of this tally. `homes` saves divisions.
+fn find_front(g: &Geometry, tid: u64, tally: &Tally, homes: &mut BodyHomes, bytes: &[u8]) -> Found
+    requires geometry { IsGeometry g.now }
+    requires bodies { AreInBodies g.now homes.old }
+    ensures bodies { AreInBodies g.now homes.new }
     ensures fits { FitsIn bytes.now result }
     ensures value { (before : List Delta) → IsTally g.now before tally.now → IsFound g.now before bytes.now (front_of g.now tid before bytes.now) result }
 {
@@ -68,7 +72,7 @@ fn find_front(g: &Geometry, tid: u64, tally: &Tally, bytes: &[u8]) -> Found
     let Some(kind) = kind_of(record_type) else {
         return Found::Wrong;
     };
-    if !may_be_logged(g, kind, home, len) {
+    if !homes.may_be_logged(g, kind, home, len) {
         return Found::Wrong;
     }
     if !may_follow(tally.last, kind, home) {
@@ -97,9 +101,10 @@ fn skip_deltas(
     ensures stop { IfOk result (λ end. StopsAt g.now tid (drop end.0 bytes.now) end.1 tally.new) }
     ensures bad { IsErrOf result Bad → IsBadAfter g.now tid bytes.now tally.old }
 {
+    let mut homes = BodyHomes::none();
     let mut at = 0;
     loop {
-        match find_front(g, tid, tally, &bytes[at..]) {
+        match find_front(g, tid, tally, &mut homes, &bytes[at..]) {
             Found::Logged(head) => {
                 let size = HEAD + logged_len(head.kind, head.len) as usize;
                 at += size;

@@ -36,7 +36,7 @@ returns-then-not-may_be_logged-clause-value c =
     front_refused c.args.g.now c.args.tid before c.args.tally.now c.args.bytes.now c.get_u32-record_type.result c.get_u64-home.result c.get_u32-len.result c.in-Some.kind
     c.may_be_logged.result (may_follow c.args.tally.now.last c.in-Some.kind c.get_u64-home.result) known (omega arith) c.get_u32-record_type.ensures
     (ne_eqb c.get_u32-record_type.result 8 c.if-record_type-eq-COMMIT.false) (sym c.kind_of.ensures ∙ c.in-Some.is) c.get_u64-home.ensures c.get_u32-len.ensures
-    c.may_be_logged.ensures refl (and_left c.may_be_logged.result (may_follow c.args.tally.now.last c.in-Some.kind c.get_u64-home.result) no)
+    c.may_be_logged.ensures.value refl (and_left c.may_be_logged.result (may_follow c.args.tally.now.last c.in-Some.kind c.get_u64-home.result) no)
 
 pub returns-then-not-may_follow-clause-value : goal.returns-then-not-may_follow-clause-value
 returns-then-not-may_follow-clause-value c =
@@ -45,7 +45,7 @@ returns-then-not-may_follow-clause-value c =
     front_refused c.args.g.now c.args.tid before c.args.tally.now c.args.bytes.now c.get_u32-record_type.result c.get_u64-home.result c.get_u32-len.result c.in-Some.kind
     c.may_be_logged.result c.may_follow.result known (omega arith) c.get_u32-record_type.ensures
     (ne_eqb c.get_u32-record_type.result 8 c.if-record_type-eq-COMMIT.false) (sym c.kind_of.ensures ∙ c.in-Some.is) c.get_u64-home.ensures c.get_u32-len.ensures
-    c.may_be_logged.ensures c.may_follow.ensures (and_no c.may_be_logged.result c.may_follow.result no)
+    c.may_be_logged.ensures.value c.may_follow.ensures (and_no c.may_be_logged.result c.may_follow.result no)
 
 pub returns-then-bytes-logged_len-clause-value : goal.returns-then-bytes-logged_len-clause-value
 returns-then-bytes-logged_len-clause-value c =
@@ -55,7 +55,7 @@ returns-then-bytes-logged_len-clause-value c =
     front_too_long c.args.g.now c.args.tid before c.args.tally.now c.args.bytes.now c.get_u32-record_type.result c.get_u64-home.result c.get_u32-len.result c.in-Some.kind
     c.may_be_logged.result c.may_follow.result known (omega arith) c.get_u32-record_type.ensures
     (ne_eqb c.get_u32-record_type.result 8 c.if-record_type-eq-COMMIT.false) (sym c.kind_of.ensures ∙ c.in-Some.is) c.get_u64-home.ensures c.get_u32-len.ensures
-    c.may_be_logged.ensures c.may_follow.ensures may follows (omega (arith, c.logged_len.ensures))
+    c.may_be_logged.ensures.value c.may_follow.ensures may follows (omega (arith, c.logged_len.ensures))
 
 pub returns-clause-value : goal.returns-clause-value
 returns-clause-value c =
@@ -65,4 +65,4 @@ returns-clause-value c =
     front_is_delta c.args.g.now c.args.tid before c.args.tally.now c.args.bytes.now c.get_u32-record_type.result c.get_u64-home.result c.get_u32-len.result c.in-Some.kind
     c.may_be_logged.result c.may_follow.result known (omega arith) c.get_u32-record_type.ensures
     (ne_eqb c.get_u32-record_type.result 8 c.if-record_type-eq-COMMIT.false) (sym c.kind_of.ensures ∙ c.in-Some.is) c.get_u64-home.ensures c.get_u32-len.ensures
-    c.may_be_logged.ensures c.may_follow.ensures may follows (omega (arith, c.logged_len.ensures))
+    c.may_be_logged.ensures.value c.may_follow.ensures may follows (omega (arith, c.logged_len.ensures))

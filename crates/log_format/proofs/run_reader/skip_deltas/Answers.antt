@@ -4,8 +4,17 @@ use Rattle.volume_model.specs.Log.{logged_len}
 use Rattle.log_format.specs.RunReading.{FitsIn}
 use Rattle.log_format.specs.declared.run_reader.Found.{Found}
 use Rattle.log_format.specs.declared.run_reader.Found.TheVariants.{Logged as delta_found, Wrong as wrong_found}
-use Rattle.log_format.proofs.ReaderSteps.{finds_at, skipped_more, bad_after}
+use Rattle.log_format.proofs.ReaderSteps.{finds_at, skipped_none, skipped_more, bad_after}
 use Rattle.log_format.proofs.run_reader.skip_deltas.Goals as goal
+
+pub loop-head-init : goal.loop-head-init
+loop-head-init c = record {
+  inside = omega arith;
+  counted = c.requires.counted;
+  bytes = omega arith;
+  bodies = c.none-homes.ensures c.args.g.now;
+  skipped = skipped_none c.args.g.now c.args.tid c.args.bytes.now c.args.tally.now;
+}
 
 pub loop-head-preserved : goal.loop-head-preserved
 loop-head-preserved c =
@@ -23,6 +32,7 @@ loop-head-preserved c =
       inside = fits;
       counted = omega (arith, l.invariant.counted);
       bytes = omega (arith, l.invariant.bytes);
+      bodies = c.find_front.ensures.bodies;
       skipped = skipped_more g c.args.tid l.at (16 + c.logged_len.result) bytes c.args.tally.now l.tally
           (record { deltas = l.tally.deltas + 1; bytes = l.tally.bytes + (16 + c.logged_len.result); last = Some head }) head l.invariant.skipped found size refl refl refl;
     }
