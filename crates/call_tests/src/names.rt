@@ -228,6 +228,12 @@ impl MetaRead for Untold {
         Ok(())
     }
 
+    fn blocks(&mut self, first: BlockNo, out: &mut [u8]) -> Result<(), DiskFault> {
+        let at = BLOCK * first.0 as usize;
+        out.copy_from_slice(&self.image[at..at + out.len()]);
+        Ok(())
+    }
+
     ghost size = { λ s. tt };
 }
 

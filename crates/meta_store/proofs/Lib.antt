@@ -11,3 +11,4 @@ pub mod FreeBlocks
 pub mod PlainSteps
 pub mod NothingApplied
 pub mod BlockTaken
+pub mod BlockRows

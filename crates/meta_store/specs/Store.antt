@@ -1,5 +1,5 @@
 -- What a store tells of itself, and what reading does to that.
-use Rattle.std.specs.Prelude.{◌≡◌, ℕ, List, Option, Some, None, IfSome}
+use Rattle.std.specs.Prelude.{◌≡◌, ◌<◌, ℕ, ◌+◌, ◌*◌, ◌%◌, List, length, Option, Some, None, IfSome}
 use Rattle.lufs_base.specs.declared.geometry.Geometry.{Geometry}
 use Rattle.volume_model.specs.Format.{Image, block}
 use Rattle.sector_disk.specs.Disk.{DiskTold, IsUnwritten}
@@ -19,6 +19,14 @@ no_disk = record { sectors = 0; present = None; listed = None; calls = 0; failur
 -- the bytes are those of block b
 abbrev pub IsBlockRead : ℕ → List ℕ → StoreTold → Type 0
 IsBlockRead b out told = IfSome told.content (λ image. out ≡ block image b)
+
+-- so many bytes are one block or more
+abbrev pub AreBlocks : ℕ → Type 0
+AreBlocks n = (0 < n) × (n % 4096 ≡ 0)
+
+-- the bytes are those of the blocks from `first` on
+abbrev pub AreBlocksRead : ℕ → List ℕ → StoreTold → Type 0
+AreBlocksRead first out told = IfSome told.content (λ image. (k : ℕ) → 4096 * k < length out → block out k ≡ block image (first + k))
 
 -- The blocks are as they were, and the disk under them was not written.
 pub record IsUnchanged (old new : StoreTold) : Type 0 where

@@ -1,9 +1,10 @@
 //! A store of an image in memory, which takes every change.
-ghost use Rattle.std.specs.Prelude.{◌≡◌, ◌≤◌, ◌<◌, ◌*◌, ◌++◌, ◌==◌, length, map, IsOk, IfOk};
+ghost use Rattle.std.specs.Prelude.{◌≡◌, ◌≤◌, ◌<◌, ◌+◌, ◌*◌, ◌++◌, ◌==◌, length, map, IsOk, IfOk};
 ghost use Rattle.std.specs.List.{list_any};
 ghost use Rattle.lufs_base.specs.Layout.{IsGeometry, blocks_of};
 ghost use Rattle.volume_model.specs.Format.{sectors_of, block};
 ghost use Rattle.volume_model.specs.Log.{AreLoggable};
+ghost use Rattle.meta_store.specs.Store.{AreBlocks, AreBlocksRead, plain_told};
 ghost use Rattle.meta_store.specs.Changes.{amended, is_group_at};
 
 use crate::image::{block_bit, is_body, lay_all, put, write_raw};
@@ -83,6 +84,18 @@ impl MetaRead for PlainStore {
     {
         let at = BLOCK * b.0 as usize;
         out.copy_from_slice(&self.image[at..at + BLOCK]);
+        Ok(())
+    }
+
+    fn blocks(&mut self, first: BlockNo, out: &mut [u8]) -> Result<(), DiskFault>
+        requires whole { AreBlocks (length out.old) }
+        requires inside { 4096 * first.0 + length out.old ≤ 4096 * blocks_of self.old.geometry }
+        ensures sure { IsOk result }
+        ensures bytes { AreBlocksRead first.0 out.new (plain_told self.old.geometry self.old.image.items) }
+        ensures same { self.new ≡ self.old }
+    {
+        let at = BLOCK * first.0 as usize;
+        out.copy_from_slice(&self.image[at..at + out.len()]);
         Ok(())
     }
 

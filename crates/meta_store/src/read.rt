@@ -1,9 +1,9 @@
 //! Reading the blocks of a volume.
-ghost use Rattle.std.specs.Prelude.{◌≡◌, ◌≤◌, ◌<◌, ◌*◌, length, IfSome, OnOk};
+ghost use Rattle.std.specs.Prelude.{◌≡◌, ◌≤◌, ◌<◌, ◌+◌, ◌*◌, length, IfSome, OnOk};
 ghost use Rattle.lufs_base.specs.Layout.{IsGeometry, blocks_of};
 ghost use Rattle.volume_model.specs.Format.{sectors_of};
 ghost use Rattle.sector_disk.specs.Disk.{CountsFailure};
-ghost use Rattle.meta_store.specs.Store.{StoreTold, IsBlockRead, IsUnchanged};
+ghost use Rattle.meta_store.specs.Store.{StoreTold, IsBlockRead, AreBlocks, AreBlocksRead, IsUnchanged};
 ghost use Rattle.meta_store.specs.Changing.{Changing, IsKept};
 
 use lufs_base::{BlockNo, DiskFault, Geometry};
@@ -30,6 +30,15 @@ pub trait MetaRead: Drop {
         requires inside { b.0 < blocks_of (store self.old).geometry }
         requires size { length out.old ≡ 4096 }
         ensures bytes { OnOk result (IsBlockRead b.0 out.new (store self.old)) }
+        ensures unchanged { IsUnchanged (store self.old) (store self.new) }
+        ensures kept { IsKept (changing self.old) (changing self.new) }
+        ensures failure { CountsFailure result (store self.old).disk (store self.new).disk };
+
+    /// Reads the blocks from block `first` on, one or more of 4,096 bytes each, at once. After an `Err` `out` holds anything.
+    fn blocks(&mut self, first: BlockNo, out: &mut [u8]) -> Result<(), DiskFault>
+        requires whole { AreBlocks (length out.old) }
+        requires inside { 4096 * first.0 + length out.old ≤ 4096 * blocks_of (store self.old).geometry }
+        ensures bytes { OnOk result (AreBlocksRead first.0 out.new (store self.old)) }
         ensures unchanged { IsUnchanged (store self.old) (store self.new) }
         ensures kept { IsKept (changing self.old) (changing self.new) }
         ensures failure { CountsFailure result (store self.old).disk (store self.new).disk };

@@ -1,12 +1,14 @@
 //! A store of a disk with its log laid over, which takes no change.
-ghost use Rattle.std.specs.Prelude.{◌≡◌, ◌≤◌, ◌<◌, ◌*◌, length, OnOk, IfSome};
+ghost use Rattle.std.specs.Prelude.{◌≡◌, ◌≤◌, ◌<◌, ◌+◌, ◌*◌, ◌/◌, ◌^◌, length, OnOk, IfSome};
 ghost use Rattle.lufs_base.specs.Layout.{IsGeometry, blocks_of};
-ghost use Rattle.volume_model.specs.Format.{block};
+ghost use Rattle.volume_model.specs.Format.{sectors_from};
 ghost use Rattle.sector_disk.specs.Disk.{IsUnwritten, CountsFailure};
+ghost use Rattle.meta_store.specs.Index.{AreLaid};
+ghost use Rattle.meta_store.specs.Store.{AreBlocks};
 
 use crate::lay::lay;
 use crate::{LaidDeltas, MetaRead};
-use lufs_base::{BlockNo, DiskFault, Geometry};
+use lufs_base::{BLOCK, BlockNo, DiskFault, Geometry};
 use sector_disk::Disk;
 
 // A disk that has the blocks of a volume.
@@ -19,16 +21,29 @@ struct VolumeDisk<D: Disk> {
 }
 
 impl<D: Disk> VolumeDisk<D> {
-    // Reads a block as it stands on the disk.
-    fn read(&mut self, b: BlockNo, out: &mut [u8]) -> Result<(), DiskFault>
-        requires inside { b.0 < blocks_of self.old.geometry }
-        requires size { length out.old ≡ 4096 }
-        ensures bytes { OnOk result (IfSome (D.told self.old.disk).present (λ image. out.new ≡ block image b.0)) }
+    // Reads the blocks from block `first` on as they stand on the disk.
+    fn read(&mut self, first: BlockNo, out: &mut [u8]) -> Result<(), DiskFault>
+        requires whole { AreBlocks (length out.old) }
+        requires inside { 4096 * first.0 + length out.old ≤ 4096 * blocks_of self.old.geometry }
+        ensures bytes { OnOk result (IfSome (D.told self.old.disk).present (λ image. out.new ≡ sectors_from image (8 * first.0) (length out.new / 512))) }
         ensures geometry { self.new.geometry ≡ self.old.geometry }
         ensures unwritten { IsUnwritten (D.told self.old.disk) (D.told self.new.disk) }
         ensures failure { CountsFailure result (D.told self.old.disk) (D.told self.new.disk) }
     {
-        self.disk.read(8 * u64::from(b.0), out)
+        self.disk.read(8 * u64::from(first.0), out)
+    }
+}
+
+// Lays what there is for each of these blocks over them, from block `first` on.
+fn lay_over(laid: &LaidDeltas, first: BlockNo, blocks: &mut [u8])
+    requires whole { AreBlocks (length blocks.old) }
+    requires fits { first.0 + length blocks.old / 4096 < 2 ^ 32 }
+    ensures { AreLaid laid.now first.0 blocks.old blocks.new }
+{
+    for k in 0..blocks.len() / BLOCK {
+        let at = BLOCK * k;
+        let deltas = laid.of_block(BlockNo(first.0 + k as u32));
+        lay(deltas, &mut blocks[at..at + BLOCK]);
     }
 }
 
@@ -85,8 +100,12 @@ impl<D: Disk> MetaRead for ReplayedDisk<D> {
     }
 
     fn block(&mut self, b: BlockNo, out: &mut [u8]) -> Result<(), DiskFault> {
-        self.volume.read(b, out)?;
-        lay(self.laid.of_block(b), out);
+        self.blocks(b, out)
+    }
+
+    fn blocks(&mut self, first: BlockNo, out: &mut [u8]) -> Result<(), DiskFault> {
+        self.volume.read(first, out)?;
+        lay_over(&self.laid, first, out);
         Ok(())
     }
 

@@ -105,13 +105,29 @@ fn read<M: MetaRead>(store: &mut M, b: u32) -> Result<[u8; BLOCK], DiskFault> {
     Ok(out)
 }
 
-// The first place, with its block, that is neither in one of these spans nor as it was.
+// Reads a block as the second of two in a row, if the volume has them.
+fn read_second<M: MetaRead>(store: &mut M, b: u32) -> Result<[u8; BLOCK], DiskFault> {
+    let mut row = [0xee; 2 * BLOCK];
+    if 0 < b && b < store.geometry().total() {
+        store.blocks(BlockNo(b - 1), &mut row)?;
+    }
+    let mut out = [0; BLOCK];
+    out.copy_from_slice(&row[BLOCK..]);
+    Ok(out)
+}
+
+// The first place, with its block, that is neither in one of these spans nor as it was, or the first block that another
+// read tells otherwise.
 fn first_wrong<M: MetaRead>(
     store: &mut M,
     spans: &[Span],
 ) -> Result<Option<(u32, usize)>, DiskFault> {
     for b in BLOCKS {
-        for (place, byte) in read(store, b)?.iter().enumerate() {
+        let block = read(store, b)?;
+        if 0 < b && read_second(store, b)? != block {
+            return Ok(Some((b, BLOCK)));
+        }
+        for (place, byte) in block.iter().enumerate() {
             let mut right = u32::from(*byte) == b;
             for (block, from, to, filled) in spans {
                 if *block == b && *from <= place && place < *to {
