@@ -1,58 +1,53 @@
--- The rows of inodes, of 32 each, whose records stand in one block.
-use Rattle.std.proofs.Common.{◌≡◌, ◌<◌, ℕ, ◌+◌, ◌*◌, ◌/◌, ◌%◌, List, take, drop, Option, Some, None, IfSome, sym, ap, ◌∙◌, arith}
-use Rattle.std.proofs.Math.Nat.{div-add-mod', mod-lt}
+-- The inode records of a group, which stand in a row of blocks.
+use Rattle.std.proofs.Common.{◌≡◌, ◌<◌, ℕ, ◌+◌, ◌-◌, ◌*◌, ◌/◌, ◌%◌, List, length, take, drop, Option, Some, sym, ap, ◌∙◌, arith}
+use Rattle.std.proofs.lemmas.List.{drop-take, drop-drop, take-take}
 use Rattle.std.proofs.lemmas.Nat.{div-mul-add, mod-mul-add}
 use Rattle.lufs_base.specs.Layout.{IsGeometry, group_start, inode_address}
 use Rattle.lufs_base.specs.declared.geometry.Geometry.{Geometry}
 use Rattle.volume_model.specs.declared.inode.Dinode.{Dinode}
-use Rattle.volume_model.specs.Format.{Image, block, dinode_of}
+use Rattle.volume_model.specs.Format.{Blocks, block, dinode_of}
 use Rattle.volume_model.specs.Sound.{inode_at}
-use Rattle.fsck_core.specs.Tables.{AreOfRow}
+use Rattle.fsck_core.specs.Tables.{AreOfGroup}
 
-product : (q m : ℕ) → q * (32 * m) ≡ 32 * (q * m)
-product q m = omega arith
+-- where the record of inode k of group n stands
+address_in_group : (g : Geometry) (n k : ℕ) → k < g.ipg → inode_address g (n * g.ipg + k) ≡ 4096 * (group_start g n + 1) + 128 * k
+address_in_group g n k within =
+    ap (λ (q : ℕ). 4096 * (group_start g q + 1) + 128 * ((n * g.ipg + k) % g.ipg)) (div-mul-add n g.ipg k within)
+    ∙ ap (λ (r : ℕ). 4096 * (group_start g n + 1) + 128 * r) (mod-mul-add n g.ipg k within)
 
--- where the first inode of the row of inode i stands, which is number r of group q
-first_of_row : (g : Geometry) (i q m r : ℕ) → g.ipg ≡ 32 * m → i ≡ q * g.ipg + r → r < g.ipg
-    → inode_address g (32 * (i / 32)) ≡ 4096 * (group_start g q + 1) + 128 * (32 * (r / 32))
-first_of_row g i q m r rows is within =
-    let b = 32 * (r / 32) in
-    let whole : q * g.ipg ≡ 32 * (q * m) = ap (λ (n : ℕ). q * n) rows ∙ product q m in
-    let first : 32 * (i / 32) ≡ q * g.ipg + b = omega (arith, is, whole) in
-    let below : b < g.ipg = omega (arith, within) in
-    ap (inode_address g) first
-    ∙ ap (λ (k : ℕ). 4096 * (group_start g k + 1) + 128 * ((q * g.ipg + b) % g.ipg)) (div-mul-add q g.ipg b below)
-    ∙ ap (λ (k : ℕ). 4096 * (group_start g q + 1) + 128 * k) (mod-mul-add q g.ipg b below)
+-- the record in its block, and in the row of blocks
+record_in_row : (table : List ℕ) (j m : ℕ) → m + 128 < 4097 → take 128 (drop m (block table j)) ≡ take 128 (drop (4096 * j + m) table)
+record_in_row table j m inside =
+    let from = 512 * (8 * j) in
+    let rest : List ℕ = drop from table in
+    let parts : 4096 ≡ m + (4096 - m) = omega (arith, inside) in
+    let place : from + m ≡ 4096 * j + m = omega arith in
+    ap (λ (n : ℕ). take 128 (drop m (take n rest))) parts
+    ∙ ap (λ (l : List ℕ). take 128 l) (drop-take m (4096 - m) rest)
+    ∙ take-take 128 (4096 - m) (drop m rest) (omega (arith, inside))
+    ∙ ap (λ (l : List ℕ). take 128 l) (drop-drop m from table)
+    ∙ ap (λ (n : ℕ). take 128 (drop n table)) place
 
-same_block : (s r : ℕ) → (4096 * (s + 1) + 128 * (32 * (r / 32))) / 4096 ≡ (4096 * (s + 1) + 128 * r) / 4096
-same_block s r = omega arith
+-- the record of an inode of the group is what stands at its place in the row
+record_of_group : (g : Geometry) (blocks : Blocks) (n k : ℕ) (table : List ℕ) → AreOfGroup g blocks n table → length table ≡ 128 * g.ipg → k < g.ipg
+    → inode_at g blocks (n * g.ipg + k) ≡ dinode_of g.version (take 128 (drop (128 * k) table))
+record_of_group g blocks n k table are size within =
+    let i = n * g.ipg + k in
+    let at = inode_address g i in
+    let j = k / 32 in
+    let m = 128 * (k % 32) in
+    let address = address_in_group g n k within in
+    let its_block : at / 4096 ≡ group_start g n + 1 + j = ap (λ (a : ℕ). a / 4096) address ∙ omega arith in
+    let its_place : at % 4096 ≡ m = ap (λ (a : ℕ). a % 4096) address ∙ omega arith in
+    let in_row : 4096 * j + m ≡ 128 * k = omega arith in
+    ap (λ (b : ℕ). dinode_of g.version (take 128 (drop (at % 4096) (blocks b)))) its_block
+    ∙ ap (λ (p : ℕ). dinode_of g.version (take 128 (drop p (blocks (group_start g n + 1 + j))))) its_place
+    ∙ ap (λ (bytes : List ℕ). dinode_of g.version (take 128 (drop m bytes))) (sym (are j (omega (arith, size, within))))
+    ∙ ap (dinode_of g.version) (record_in_row table j m (omega arith))
+    ∙ ap (λ (p : ℕ). dinode_of g.version (take 128 (drop p table))) in_row
 
-same_place : (s p r i : ℕ) → i ≡ 32 * p + r → 128 * (i % 32) ≡ (4096 * (s + 1) + 128 * r) % 4096
-same_place s p r i is = omega (arith, is)
-
-rows_of : (g : Geometry) → IsGeometry g → g.ipg ≡ 32 * (g.ipg / 32)
-rows_of g ok = omega (arith, ok.ipg_step)
-
--- the inodes of a row stand in one block, one after the other
-block_of_row : (g : Geometry) (i : ℕ) → IsGeometry g → inode_address g (32 * (i / 32)) / 4096 ≡ inode_address g i / 4096
-block_of_row g i ok =
-    ap (λ (k : ℕ). k / 4096) (first_of_row g i (i / g.ipg) (g.ipg / 32) (i % g.ipg) (rows_of g ok) (sym (div-add-mod' i g.ipg)) (mod-lt i (omega (arith, ok.ipg_low))))
-    ∙ same_block (group_start g (i / g.ipg)) (i % g.ipg)
-
-place_in_row : (g : Geometry) (i : ℕ) → IsGeometry g → 128 * (i % 32) ≡ inode_address g i % 4096
-place_in_row g i ok =
-    same_place (group_start g (i / g.ipg)) ((i / g.ipg) * (g.ipg / 32)) (i % g.ipg) i
-    (sym (div-add-mod' i g.ipg) ∙ ap (λ (k : ℕ). k + i % g.ipg) (ap (λ (n : ℕ). (i / g.ipg) * n) (rows_of g ok) ∙ product (i / g.ipg) (g.ipg / 32)))
-
--- the record that was read of inode i, from the block of its row
-pub inode_told : (g : Geometry) (content : Option Image) (i version size at : ℕ) (bytes : List ℕ) (row : Option ℕ) (found : Option (Option Dinode)) → IsGeometry g
-    → version ≡ g.version → row ≡ Some (i / 32) → AreOfRow g content row bytes → size ≡ 128 → at ≡ 128 * (i % 32) → found ≡ dinode_of version (take size (drop at bytes))
-    → IfSome content (λ image. found ≡ inode_at g (block image) i)
-inode_told g None i version size at bytes row found ok of_g is held long place value = tt
-inode_told g (Some image) i version size at bytes row found ok of_g is held long place value =
-    let shown : bytes ≡ block image (inode_address g (32 * (i / 32)) / 4096) = rw is at held in
-    value
-    ∙ ap (λ (n : ℕ). dinode_of version (take n (drop at bytes))) long
-    ∙ ap (λ (k : ℕ). dinode_of version (take 128 (drop k bytes))) (place ∙ place_in_row g i ok)
-    ∙ ap (λ (xs : List ℕ). dinode_of version (take 128 (drop (inode_address g i % 4096) xs))) (shown ∙ ap (block image) (block_of_row g i ok))
-    ∙ ap (λ (v : ℕ). dinode_of v (take 128 (drop (inode_address g i % 4096) (block image (inode_address g i / 4096))))) of_g
+-- what was read at its place
+pub told_in_group : (g : Geometry) (blocks : Blocks) (n k size : ℕ) (table : List ℕ) (found : Option (Option Dinode)) → AreOfGroup g blocks n table → length table ≡ 128 * g.ipg → k < g.ipg
+    → size ≡ 128 → found ≡ dinode_of g.version (take size (drop (128 * k) table)) → inode_at g blocks (n * g.ipg + k) ≡ found
+told_in_group g blocks n k size table found are whole within long value =
+    record_of_group g blocks n k table are whole within ∙ ap (λ (m : ℕ). dinode_of g.version (take m (drop (128 * k) table))) (sym long) ∙ sym value

@@ -24,6 +24,7 @@ pub mod RisingNames
 pub mod SlotsInBytes
 pub mod StoreSteps
 pub mod SurveyLoop
+pub mod TableLoop
 pub mod SurveySteps
 pub mod SurveyTold
 pub mod WithZeros

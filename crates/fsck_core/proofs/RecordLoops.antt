@@ -1,6 +1,7 @@
 -- What a check knows of a store while it reads one record after the other.
-use Rattle.std.proofs.Common.{◌≡◌, ◌<◌, ◌≤◌, ◌+◌, inl, inr, ℕ, Bool, true, if◌then◌else◌, List, [], ◌∷◌, ◌++◌, length, Option, Some, None, IfSome, option_map, refl, sym, ap, subst, ◌∙◌, arith}
-use Rattle.std.proofs.lemmas.Bool.{cases_lt, lt-ltb, le-ltb}
+use Rattle.std.proofs.Common.{◌≡◌, ◌<◌, ◌≤◌, ◌+◌, ◌*◌, ℕ, Bool, true, List, [], ◌∷◌, ◌++◌, length, Option, Some, None, IfSome, option_map, refl, sym, ap, subst, ◌∙◌, arith}
+use Rattle.std.proofs.Math.Nat.{mul-le-mul_right}
+use Rattle.std.proofs.lemmas.Bool.{lt-ltb}
 use Rattle.volume_model.specs.declared.inode.Dinode.{Dinode}
 use Rattle.volume_model.specs.declared.finding.Kind.TheVariants.{Group as of_groups, Inode as of_inodes}
 use Rattle.volume_model.specs.Format.{Image, Blocks, block, inodes_of}
@@ -9,8 +10,11 @@ use Rattle.lufs_base.specs.declared.geometry.Geometry.{Geometry}
 use Rattle.cyl_groups.specs.declared.group.Group.{Group}
 use Rattle.cyl_groups.specs.Group.{record_of}
 use Rattle.fsck_core.specs.declared.inodes.Inodes.{Inodes}
+use Rattle.fsck_core.specs.declared.claims.Claims.{Claims}
+use Rattle.fsck_core.specs.declared.inodes.Brief.{Brief}
+use Rattle.fsck_core.specs.declared.inodes.Unsettled.{Unsettled}
 use Rattle.fsck_core.specs.Inodes.{AreKept}
-use Rattle.fsck_core.specs.Tables.{AreGroups, AreOfRow, allowed}
+use Rattle.fsck_core.specs.Tables.{AreGroups}
 use Rattle.fsck_core.proofs.KeptInodes.{briefs_size}
 use Rattle.fsck_core.proofs.RecordSteps.{more_groups, bad_group_found, bad_inode_found}
 
@@ -42,70 +46,35 @@ group_missing g h (Some image) now groups n found geometry same size below is to
 none_is_some : {X : Type 0} (x : X) → None ≡ Some x → ⊥
 none_is_some x is = cc
 
-pub inodes_begun : (g : Geometry) (content : Option Image) (k : Inodes) → ((blocks : Blocks) → AreKept g blocks 0 k.briefs.items k.unsettled.items k.claims)
-    → IfSome content (λ image. AreKept g (block image) 0 k.briefs.items k.unsettled.items k.claims)
-inodes_begun g None k are = tt
-inodes_begun g (Some image) k are = are (block image)
-
-pub nothing_held : (g : Geometry) (content : Option Image) (row : Option ℕ) (bytes : List ℕ) → row ≡ None → AreOfRow g content row bytes
-nothing_held g None row bytes none = tt
-nothing_held g (Some image) row bytes none = subst (λ (n : Option ℕ). AreOfRow g (Some image) n bytes) (sym none) tt
-
-allowed_is : (i : ℕ) (found : Option (Option Dinode)) (d : Option Dinode) → allowed i found ≡ Some d → (found ≡ Some d) × ((u : Dinode) → i < 2 → d ≡ Some u → ⊥)
-allowed_is i None d may = cc
-allowed_is i (Some None) d may =
-    let is : None ≡ d = cc in
-    (may, λ u low some. (none_is_some u (is ∙ some)))
-allowed_is i (Some (Some v)) d may = elim (cases_lt i 2) [
-  | inl low ↦ absurd (none_is_some d (sym (ap (λ (b : Bool). if b then None else Some (Some v)) (lt-ltb i 2 low)) ∙ may))
-  | inr high ↦
-      (sym (ap (λ (b : Bool). if b then None else Some (Some v)) (le-ltb i 2 high)) ∙ may, λ u low some. absurd (omega (arith, low, high)))
-]
-
-not_allowed : (i : ℕ) (blocks : Blocks) (found : Option (Option Dinode)) → allowed i found ≡ None → is_bad_state i (Some (state_of blocks found)) ≡ true
-not_allowed i blocks None may = refl
-not_allowed i blocks (Some None) may = cc
-not_allowed i blocks (Some (Some v)) may = elim (cases_lt i 2) [
-  | inl low ↦ lt-ltb i 2 low
-  | inr high ↦ absurd (none_is_some (Some v) (sym may ∙ ap (λ (b : Bool). if b then None else Some (Some v)) (le-ltb i 2 high)))
-]
-
-not_low : (n : ℕ) → (n < 2 → ⊥) → 2 ≤ n
-not_low n never = elim (cases_lt n 2) [
-  | inl low ↦ absurd (never low)
-  | inr high ↦ high
-]
-
--- one inode more, which was kept
-pub inodes_more : (g h k : Geometry) (content now : Option Image) (n : ℕ) (found : Option (Option Dinode)) (d : Option Dinode) (before after : Inodes)
-    → h ≡ g → k ≡ g → now ≡ content → n < inodes_of g → allowed n found ≡ Some d → IfSome now (λ image. found ≡ inode_at h (block image) n)
-    → ((blocks : Blocks) → n < inodes_of k → inode_at k blocks n ≡ Some d → ((u : Dinode) → d ≡ Some u → 2 ≤ n)
-    → AreKept k blocks n before.briefs.items before.unsettled.items before.claims → AreKept k blocks (n + 1) after.briefs.items after.unsettled.items after.claims)
-    → IfSome content (λ image. AreKept g (block image) n before.briefs.items before.unsettled.items before.claims)
-    → IfSome content (λ image. AreKept g (block image) (n + 1) after.briefs.items after.unsettled.items after.claims)
-inodes_more g h k None now n found d before after geometry read same below may told kept had = tt
-inodes_more g h k (Some image) now n found d before after geometry read same below may told kept had =
-    let p = allowed_is n found d may in
-    let here : found ≡ inode_at h (block image) n = rw same at told in
-    let next : inode_at g (block image) n ≡ Some d = ap (λ (j : Geometry). inode_at j (block image) n) (sym geometry) ∙ sym here ∙ p.0 in
-    let step = subst (λ (j : Geometry). n < inodes_of j → inode_at j (block image) n ≡ Some d → ((u : Dinode) → d ≡ Some u → 2 ≤ n)
-    → AreKept j (block image) n before.briefs.items before.unsettled.items before.claims → AreKept j (block image) (n + 1) after.briefs.items after.unsettled.items after.claims)
-    read (kept (block image)) in
-    step below next (λ u some. not_low n (λ low. p.1 u low some)) had
-
-pub inode_wrong : (g h : Geometry) (content now : Option Image) (k : Inodes) (n : ℕ) (found : Option (Option Dinode))
-    → h ≡ g → now ≡ content → length k.briefs.items ≡ n → n < inodes_of g → allowed n found ≡ None
-    → IfSome content (λ image. first_of_kind g (reading_of g (block image)) [] of_groups ≡ None)
-    → IfSome now (λ image. found ≡ inode_at h (block image) n)
-    → IfSome content (λ image. AreKept g (block image) n k.briefs.items k.unsettled.items k.claims) → IfSome content (λ image. finding_of g (reading_of g (block image)) [] ≡ Some (of_inodes, n))
-inode_wrong g h None now k n found geometry same size below may groups told before = tt
-inode_wrong g h (Some image) now k n found geometry same size below may groups told before =
-    let inodes = before.briefs_are.inodes in
-    let count : length inodes ≡ n = briefs_size g (block image) k.briefs.items before.briefs_are ∙ size in
-    let here : found ≡ inode_at h (block image) n = rw same at told in
-    let is : inode_at g (block image) (length inodes) ≡ found =
-    ap (inode_at g (block image)) count ∙ ap (λ (j : Geometry). inode_at j (block image) n) (sym geometry) ∙ sym here in
-    bad_inode_found g (block image) inodes before.briefs_are.records (omega (arith, count, below)) groups
-    (ap (λ (j : ℕ). is_bad_state j (Some (state_of (block image) (inode_at g (block image) (length inodes))))) count
-    ∙ ap (λ (o : Option (Option Dinode)). is_bad_state n (Some (state_of (block image) o))) is ∙ not_allowed n (block image) found may)
+-- an inode whose record the check may not keep is what it finds
+pub inode_bad : (g : Geometry) (blocks : Blocks) (n : ℕ) (briefs : List (Option Brief)) (unsettled : List Unsettled) (claims : Claims) → length briefs ≡ n → n < inodes_of g
+    → first_of_kind g (reading_of g blocks) [] of_groups ≡ None → is_bad_state n (Some (state_of blocks (inode_at g blocks n))) ≡ true → AreKept g blocks n briefs unsettled claims
+    → finding_of g (reading_of g blocks) [] ≡ Some (of_inodes, n)
+inode_bad g blocks n briefs unsettled claims size below groups bad kept =
+    let inodes = kept.briefs_are.inodes in
+    let count : length inodes ≡ n = briefs_size g blocks briefs kept.briefs_are ∙ size in
+    bad_inode_found g blocks inodes kept.briefs_are.records (omega (arith, count, below)) groups
+    (ap (λ (j : ℕ). is_bad_state j (Some (state_of blocks (inode_at g blocks j)))) count ∙ bad)
     ∙ ap (λ (j : ℕ). Some (of_inodes, j)) count
+
+-- the state of an inode that has no record, and of one in use that may not be
+pub no_record_is_bad : (n : ℕ) (blocks : Blocks) (found : Option (Option Dinode)) → found ≡ None → is_bad_state n (Some (state_of blocks found)) ≡ true
+no_record_is_bad n blocks found none = ap (λ (o : Option (Option Dinode)). is_bad_state n (Some (state_of blocks o))) none
+
+pub low_in_use_is_bad : (n : ℕ) (blocks : Blocks) (found : Option (Option Dinode)) (d : Dinode) → found ≡ Some (Some d) → n < 2 → is_bad_state n (Some (state_of blocks found)) ≡ true
+low_in_use_is_bad n blocks found d is low = ap (λ (o : Option (Option Dinode)). is_bad_state n (Some (state_of blocks o))) is ∙ lt-ltb n 2 low
+
+-- an inode of a group is one of the volume
+pub inside_volume : (g : Geometry) (n k : ℕ) → n < g.groups → k < g.ipg → n * g.ipg + k < inodes_of g
+inside_volume g n k group within =
+    let whole : (n + 1) * g.ipg ≤ inodes_of g = mul-le-mul_right g.ipg (omega (arith, group)) in
+    let apart : (n + 1) * g.ipg ≡ n * g.ipg + g.ipg = omega arith in
+    omega (arith, whole, apart, within)
+
+-- in a volume whose content is told
+pub told_begun : (g : Geometry) (content : Option Image) (k : Inodes) → ((blocks : Blocks) → AreKept g blocks 0 k.briefs.items k.unsettled.items k.claims)
+    → IfSome content (λ image. AreKept g (block image) (0 * g.ipg) k.briefs.items k.unsettled.items k.claims)
+told_begun g None k are = tt
+told_begun g (Some image) k are =
+    let none : 0 ≡ 0 * g.ipg = omega arith in
+    subst (λ (n : ℕ). AreKept g (block image) n k.briefs.items k.unsettled.items k.claims) none (are (block image))

@@ -55,7 +55,7 @@ told_next old mid briefs xs k d s same known below looked =
     (λ image knows has. (next_at old.geometry (block image) briefs xs k d s below knows has).at) known looked)
 
 -- what is so of the blocks of an unchanged store was so before
-carried_back : (P : Geometry → Image → Type 0) (old mid : StoreTold) → IsUnchanged old mid → IfSome mid.content (P mid.geometry) → IfSome old.content (P old.geometry)
+pub carried_back : (P : Geometry → Image → Type 0) (old mid : StoreTold) → IsUnchanged old mid → IfSome mid.content (P mid.geometry) → IfSome old.content (P old.geometry)
 carried_back P old mid same told =
     subst (λ (c : Option Image). IfSome c (P old.geometry)) same.content (subst (λ (g : Geometry). IfSome mid.content (P g)) same.geometry told)
 
@@ -77,7 +77,7 @@ told_more old mid briefs xs k d s t same known below looked step =
     (carried_back (λ g image. IsSurvey g (reading_of g (block image)) o.ino s → IsSurvey g (reading_of g (block image)) (o.ino + 1) t) old mid same step)
 
 -- a part that ended early ends the whole
-part_stopped : {S T : Type 0} (P : S → Type 0) (Keeps : T → Type 0) (g : Geometry) (blocks : Blocks) (stop : Stop) (result : Result T Stop)
+pub part_stopped : {S T : Type 0} (P : S → Type 0) (Keeps : T → Type 0) (g : Geometry) (blocks : Blocks) (stop : Stop) (result : Result T Stop)
     → IsPart g blocks P (Err stop) → IsErrAnd result (λ e. e ≡ stop) → IsPart g blocks Keeps result
 part_stopped P Keeps g blocks stop (Ok kept) part given = absurd given
 part_stopped {S} P Keeps g blocks stop (Err e) part given = by_stop e (subst (λ (x : Stop). IsPart g blocks P (Err x)) (sym given) part)

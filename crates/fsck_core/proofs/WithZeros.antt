@@ -1,7 +1,7 @@
 -- Numbers with zeros after them say of an inode what they say alone.
 use Rattle.std.proofs.Common.{◌≡◌, ℕ, zero, suc, ◌-◌, ◌*◌, ◌/◌, ◌%◌, nat_le, nat_lt, Bool, true, false, not, ◌&&◌, ◌||◌, ◌==◌, cond, List, [], ◌∷◌, ◌++◌, length, map, take, drop, replicate, slice_index, Option, Some, None, IfSome, inl, inr, refl, sym, ap, ◌∙◌, arith}
 use Rattle.std.proofs.Math.Dec.{leb-suc-suc}
-use Rattle.std.proofs.lemmas.Bool.{cases_lt, le-leb, lt-leb}
+use Rattle.std.proofs.lemmas.Bool.{cases_lt, le-leb, lt-leb, eqb-true, and_parts}
 use Rattle.std.proofs.lemmas.List.{append-nil, get_or-append_right, get_or-replicate, get_or_append_left, get_or_past, length-replicate, drop-replicate}
 use Rattle.std.proofs.lemmas.List.Folds.{list_all-append}
 use Rattle.std.specs.List.{list_all}
@@ -18,6 +18,12 @@ use Rattle.fsck_core.proofs.Nonzero.{nonzero-append, nonzero-zeros}
 pub are_zeros-replicate : (n : ℕ) → are_zeros (replicate n 0) ≡ true
 are_zeros-replicate zero = refl
 are_zeros-replicate (suc n) = are_zeros-replicate n
+
+pub zeros_are_replicate : (xs : List ℕ) → are_zeros xs ≡ true → xs ≡ replicate (length xs) 0
+zeros_are_replicate [] all = refl
+zeros_are_replicate (x ∷ xs) all =
+    ap (λ (b : ℕ). b ∷ xs) (eqb-true x 0 (and_parts (x == 0) (are_zeros xs) all).0)
+    ∙ ap (λ (l : List ℕ). 0 ∷ l) (zeros_are_replicate xs (and_parts (x == 0) (are_zeros xs) all).1)
 
 and_true : (t : Bool) → (t && true) ≡ t
 and_true true = refl

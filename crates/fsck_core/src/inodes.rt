@@ -1,8 +1,8 @@
 //! What a check keeps of the inodes as it reads them. Most inodes are settled by their record alone, so that only their
 //! type and their links are kept.
-ghost use Rattle.std.specs.Prelude.{◌≡◌, ◌<◌, ◌≤◌, ◌+◌, ◌*◌, ℕ, true, All, length, take, Some, OnOk, IfOk, IsTrue};
+ghost use Rattle.std.specs.Prelude.{◌≡◌, ◌<◌, ◌≤◌, ◌+◌, ◌*◌, ℕ, true, All, length, take, Some, None, OnOk, IfOk, IsTrue};
 ghost use Rattle.lufs_base.specs.Layout.{IsGeometry};
-ghost use Rattle.volume_model.specs.declared.inode.Dinode.{Dinode as IsOfInode};
+ghost use Rattle.lufs_base.specs.declared.geometry.Geometry.{Geometry as IsOfGeometry};
 ghost use Rattle.volume_model.specs.Format.{Blocks, inodes_of, is_body};
 ghost use Rattle.volume_model.specs.Sound.{inode_at, size_in_blocks};
 ghost use Rattle.fsck_core.specs.Claimed.{blocks_claimed};
@@ -73,8 +73,8 @@ impl Inodes {
         })
     }
 
-    // Keeps inode `i`, the next one, which is in use.
-    fn push_used(&mut self, g: &Geometry, i: u32, d: &Dinode) -> Result<(), Mem>
+    /// Keeps inode `i`, the next one, which is in use.
+    pub(crate) fn push_used(&mut self, g: &Geometry, i: u32, d: &Dinode) -> Result<(), Mem>
         requires geometry { IsGeometry g.now }
         requires few { i < 65536 }
         requires room { HasKept g.now i self.old.briefs.items self.old.unsettled.items self.old.claims }
@@ -95,19 +95,14 @@ impl Inodes {
         Ok(())
     }
 
-    /// Keeps inode `i`, the next one.
-    pub(crate) fn push(&mut self, g: &Geometry, i: u32, inode: &Option<Dinode>) -> Result<(), Mem>
-        requires geometry { IsGeometry g.now }
-        requires few { i < 65536 }
-        requires room { HasKept g.now i self.old.briefs.items self.old.unsettled.items self.old.claims }
-        ensures kept { (blocks : Blocks) → i < inodes_of g.now → inode_at g.now blocks i ≡ Some inode.now → ((d : IsOfInode) → inode.now ≡ Some d → 2 ≤ i)
-            → AreKept g.now blocks i self.old.briefs.items self.old.unsettled.items self.old.claims
-            → OnOk result (AreKept g.now blocks (i + 1) self.new.briefs.items self.new.unsettled.items self.new.claims) }
-        ensures room { OnOk result (HasKept g.now (i + 1) self.new.briefs.items self.new.unsettled.items self.new.claims) }
+    /// Keeps the next inode, which isn't in use.
+    pub(crate) fn push_free(&mut self) -> Result<(), Mem>
+        ensures kept { (g : IsOfGeometry) (blocks : Blocks) (i : ℕ) → i < inodes_of g → inode_at g blocks i ≡ Some None → length self.old.briefs.items ≡ i
+            → AreKept g blocks i self.old.briefs.items self.old.unsettled.items self.old.claims
+            → OnOk result (AreKept g blocks (i + 1) self.new.briefs.items self.new.unsettled.items self.new.claims) }
+        ensures room { (g : IsOfGeometry) (i : ℕ) → HasKept g i self.old.briefs.items self.old.unsettled.items self.old.claims
+            → OnOk result (HasKept g (i + 1) self.new.briefs.items self.new.unsettled.items self.new.claims) }
     {
-        match inode {
-            None => Ok(self.briefs.push(None)?),
-            Some(d) => self.push_used(g, i, d),
-        }
+        Ok(self.briefs.push(None)?)
     }
 }

@@ -17,6 +17,5 @@ mod stop;
 mod survey;
 mod types;
 mod verdict;
-mod window;
 
 pub use verdict::check;

@@ -1,5 +1,5 @@
 //! The block numbers of an inode with a pointer block, by index.
-ghost use Rattle.std.specs.Prelude.{◌≡◌, ◌≢◌, ◌<◌, ◌≤◌, ◌-◌, ◌*◌, map, length, take, drop, replicate, slice_index, IfSome, IfOk, IsTrue};
+ghost use Rattle.std.specs.Prelude.{◌≡◌, ◌≢◌, ◌<◌, ◌≤◌, ◌-◌, ◌*◌, map, length, take, drop, replicate, slice_index, IfSome, IfOk};
 ghost use Rattle.std.specs.List.{range_with_len};
 ghost use Rattle.lufs_base.specs.Fields.{u32_at};
 ghost use Rattle.lufs_base.specs.Layout.{blocks_of};
@@ -9,7 +9,7 @@ ghost use Rattle.sector_disk.specs.Disk.{CountsFailure};
 ghost use Rattle.meta_store.specs.Store.{IsUnchanged};
 ghost use Rattle.fsck_core.specs.Claimed.{with_zeros};
 
-use lufs_base::{BLOCK, BlockNo, DiskFault, get_u32};
+use lufs_base::{BLOCK, BlockNo, DiskFault, are_zeros, get_u32};
 use meta_store::MetaRead;
 use volume_model::Dinode;
 
@@ -28,20 +28,6 @@ fn pointers_below(size: u64) -> usize
 {
     let blocks = size / BLOCK as u64 + 1;
     blocks.saturating_sub(DIRECT as u64).min(POINTERS as u64) as usize
-}
-
-fn are_same(first: &[u8], second: &[u8]) -> bool
-    ensures { IsTrue result → first.now ≡ second.now }
-{
-    first == second
-}
-
-// Whether all of the bytes are zeros. Whole words of them are compared.
-fn are_zeros(bytes: &[u8]) -> bool
-    requires { length bytes.now ≤ 4096 }
-    ensures { IsTrue result → bytes.now ≡ replicate (length bytes.now) 0 }
-{
-    are_same(bytes, &[0; BLOCK][..bytes.len()])
 }
 
 // How many numbers of a pointer block there are to look at. All after them are 0.

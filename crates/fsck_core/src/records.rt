@@ -1,26 +1,26 @@
 //! The records of the groups and of the inodes.
-ghost use Rattle.std.specs.Prelude.{◌≡◌, ◌<◌, [], length, Some, None, IfSome, IfOk, IsErrOf, IsTrue, replicate, option_map};
-ghost use Rattle.volume_model.specs.Format.{block, dinode_of, inodes_of};
+ghost use Rattle.std.specs.Prelude.{◌≡◌, ◌<◌, ◌+◌, ◌*◌, [], length, None, IfSome, IfOk, OnOk, IsErrOf, option_map};
+ghost use Rattle.lufs_base.specs.Layout.{IsGeometry};
+ghost use Rattle.volume_model.specs.Format.{Blocks, block, inodes_of};
 ghost use Rattle.volume_model.specs.declared.finding.Kind.TheVariants.{Group as of_groups};
-ghost use Rattle.volume_model.specs.Sound.{reading_of, group_at, inode_at, first_of_kind};
+ghost use Rattle.volume_model.specs.Sound.{reading_of, group_at, first_of_kind};
 ghost use Rattle.sector_disk.specs.Disk.{CountsFailure, FailsJustAt};
 ghost use Rattle.cyl_groups.specs.Group.{record_of};
 ghost use Rattle.meta_store.specs.Store.{IsUnchanged};
 ghost use Rattle.fsck_core.specs.Inodes.{AreKept, HasKept};
-ghost use Rattle.fsck_core.specs.Tables.{AreGroups, AreOfRow, allowed};
-ghost use Rattle.fsck_core.specs.Answers.{IsPartOf};
+ghost use Rattle.fsck_core.specs.Tables.{AreGroups, AreOfGroup};
+ghost use Rattle.fsck_core.specs.Answers.{IsPart, IsPartOf};
 ghost use Rattle.meta_store.specs.declared.error.StoreError.TheVariants.{Disk};
 ghost use Rattle.fsck_core.specs.declared.stop.Stop.TheVariants.{Failed};
 
 use crate::inodes::Inodes;
 use crate::stop::Stop;
-use crate::window::Window;
 use cyl_groups::{Group, read_group};
 use inode_table::read_dinode;
-use lufs_base::{BLOCK, DiskFault};
+use lufs_base::{BLOCK, BlockNo, DiskFault, Geometry};
 use meta_store::MetaRead;
 use std::alloc::Global;
-use volume_model::{Dinode, Kind};
+use volume_model::Kind;
 
 // The bytes of the record of an inode.
 const RECORD: usize = 128;
@@ -56,56 +56,55 @@ pub(crate) fn read_groups<S: MetaRead>(alloc: Global, store: &mut S) -> Result<V
     Ok(groups)
 }
 
-// Whether all of a record is zeros, as that of an inode that isn't in use is. One in use has a mode, which its first
-// byte tells; else whole words are compared.
-fn is_free(bytes: &[u8]) -> bool
-    requires { length bytes.now ≡ 128 }
-    ensures { IsTrue result → bytes.now ≡ replicate 128 0 }
+// Keeps the inodes of group n, whose records these bytes are. The inodes 0 and 1 are never in use.
+fn push_table(g: &Geometry, n: u32, table: &[u8], inodes: &mut Inodes) -> Result<(), Stop>
+    requires geometry { IsGeometry g.now }
+    requires group { n < g.now.groups }
+    requires size { length table.now ≡ 128 * g.now.ipg }
+    requires room { HasKept g.now (n * g.now.ipg) inodes.old.briefs.items inodes.old.unsettled.items inodes.old.claims }
+    ensures part { (blocks : Blocks) → AreOfGroup g.now blocks n table.now → first_of_kind g.now (reading_of g.now blocks) [] of_groups ≡ None
+        → AreKept g.now blocks (n * g.now.ipg) inodes.old.briefs.items inodes.old.unsettled.items inodes.old.claims
+        → IsPart g.now blocks (λ _. AreKept g.now blocks ((n + 1) * g.now.ipg) inodes.new.briefs.items inodes.new.unsettled.items inodes.new.claims) result }
+    ensures room { OnOk result (HasKept g.now ((n + 1) * g.now.ipg) inodes.new.briefs.items inodes.new.unsettled.items inodes.new.claims) }
+    ensures no_fault { ¬ IsErrOf result (Failed Disk) }
 {
-    bytes[0] == 0 && bytes == [0; RECORD].as_slice()
-}
-
-// What these bytes of a record say, if they are one.
-fn read_record(version: u32, bytes: &[u8]) -> Option<Option<Dinode>>
-    requires { length bytes.now ≡ 128 }
-    ensures { result ≡ dinode_of version bytes.now }
-{
-    if is_free(bytes) {
-        return Some(None);
+    for k in 0..g.ipg {
+        let i = n * g.ipg + k;
+        let at = RECORD * k as usize;
+        match read_dinode(g.version, &table[at..at + RECORD]) {
+            Ok(None) => inodes.push_free()?,
+            Ok(Some(d)) if i >= 2 => inodes.push_used(g, i, &d)?,
+            _ => return Err(Stop::Found(Kind::Inode, i)),
+        }
     }
-    read_dinode(version, bytes).ok()
+    Ok(())
 }
 
-// What the record of inode i says, if it is one.
-fn inode_record<S: MetaRead>(
+// Reads the inode records of group n, through `table`, and keeps the inodes.
+fn read_table<S: MetaRead>(
     store: &mut S,
-    window: &mut Window,
-    i: u32,
-) -> Result<Option<Option<Dinode>>, DiskFault>
-    requires inside { i < inodes_of (S.store store.old).geometry }
-    requires held { AreOfRow (S.store store.old).geometry (S.store store.old).content window.old.row window.old.bytes }
-    ensures value { IfSome (S.store store.old).content (λ image. IfOk result (λ found. found ≡ inode_at (S.store store.old).geometry (block image) i)) }
-    ensures held { AreOfRow (S.store store.old).geometry (S.store store.old).content window.new.row window.new.bytes }
+    n: u32,
+    table: &mut [u8],
+    inodes: &mut Inodes,
+) -> Result<(), Stop>
+    requires group { n < (S.store store.old).geometry.groups }
+    requires size { length table.old ≡ 128 * (S.store store.old).geometry.ipg }
+    requires room { HasKept (S.store store.old).geometry (n * (S.store store.old).geometry.ipg) inodes.old.briefs.items inodes.old.unsettled.items inodes.old.claims }
+    ensures part { IfSome (S.store store.old).content (λ image.
+        first_of_kind (S.store store.old).geometry (reading_of (S.store store.old).geometry (block image)) [] of_groups ≡ None
+        → AreKept (S.store store.old).geometry (block image) (n * (S.store store.old).geometry.ipg) inodes.old.briefs.items inodes.old.unsettled.items inodes.old.claims
+        → IsPart (S.store store.old).geometry (block image)
+        (λ _. AreKept (S.store store.old).geometry (block image) ((n + 1) * (S.store store.old).geometry.ipg) inodes.new.briefs.items inodes.new.unsettled.items inodes.new.claims) result) }
+    ensures room { OnOk result (HasKept (S.store store.old).geometry ((n + 1) * (S.store store.old).geometry.ipg) inodes.new.briefs.items inodes.new.unsettled.items inodes.new.claims) }
     ensures unchanged { IsUnchanged (S.store store.old) (S.store store.new) }
-    ensures failure { CountsFailure result (S.store store.old).disk (S.store store.new).disk }
+    ensures failure { FailsJustAt (IsErrOf result (Failed Disk)) (S.store store.old).disk (S.store store.new).disk }
 {
-    let version = store.geometry().version;
-    window.show(store, i)?;
-    let at = RECORD * (i % 32) as usize;
-    Ok(read_record(version, &window.bytes[at..at + RECORD]))
+    let g = *store.geometry();
+    store.blocks(BlockNo(g.group_block(n).0 + 1), table)?;
+    push_table(&g, n, table, inodes)
 }
 
-// What the record of inode i says, where it may say so: the inodes 0 and 1 are never in use.
-fn allowed(i: u32, found: Option<Option<Dinode>>) -> Option<Option<Dinode>>
-    ensures { result ≡ allowed i found }
-{
-    match found {
-        Some(Some(_)) if i < 2 => None,
-        _ => found,
-    }
-}
-
-/// What there is to keep of each inode. The inodes 0 and 1 are never in use.
+/// What there is to keep of each inode. The records of a group, which stand in a row, are read at once.
 pub(crate) fn read_inodes<S: MetaRead>(alloc: Global, store: &mut S) -> Result<Inodes, Stop>
     requires groups { IfSome (S.store store.old).content (λ image.
         first_of_kind (S.store store.old).geometry (reading_of (S.store store.old).geometry (block image)) [] of_groups ≡ None) }
@@ -116,12 +115,9 @@ pub(crate) fn read_inodes<S: MetaRead>(alloc: Global, store: &mut S) -> Result<I
 {
     let g = *store.geometry();
     let mut inodes = Inodes::new(alloc, &g)?;
-    let mut window = Window::new();
-    for i in 0..g.groups * g.ipg {
-        match allowed(i, inode_record(store, &mut window, i)?) {
-            Some(inode) => inodes.push(&g, i, &inode)?,
-            None => return Err(Stop::Found(Kind::Inode, i)),
-        }
+    let mut table = vec![in alloc; 0u8; RECORD * g.ipg as usize]?;
+    for n in 0..g.groups {
+        read_table(store, n, &mut table, &mut inodes)?;
     }
     Ok(inodes)
 }

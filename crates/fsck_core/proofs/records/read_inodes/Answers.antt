@@ -1,41 +1,38 @@
-use Rattle.std.proofs.Common.{◌≡◌, ◌+◌, ◌*◌, ◌<◌, Option, ap, subst, sym, ◌∙◌, arith}
+use Rattle.std.proofs.Common.{◌≡◌, ◌+◌, ◌*◌, ◌++◌, length, take, drop, subst, arith, length-take, length-drop, length-append}
 use Rattle.lufs_base.specs.declared.geometry.Geometry.{Geometry}
-use Rattle.volume_model.specs.Format.{Image, inodes_of}
+use Rattle.volume_model.specs.Format.{inodes_of}
+use Rattle.meta_store.specs.declared.error.StoreError.TheVariants.{Disk}
+use Rattle.fsck_core.specs.declared.stop.Stop.TheVariants.{Failed}
 use Rattle.sector_disk.proofs.MadeCalls.{none_then}
-use Rattle.fsck_core.specs.Inodes.{HasKept}
-use Rattle.fsck_core.specs.Tables.{AreOfRow}
+use Rattle.fsck_core.specs.Inodes.{AreKept, HasKept}
 use Rattle.fsck_core.proofs.StoreSteps.{unchanged_then}
-use Rattle.fsck_core.proofs.RecordLoops.{inodes_more, inode_wrong}
+use Rattle.fsck_core.proofs.TableLoop.{table_more, table_stopped, fails_last, error_back, error_on}
 use Rattle.fsck_core.proofs.records.read_inodes.Goals as goal
 
-pub loop-i-preserved : goal.loop-i-preserved
-loop-i-preserved g c =
-    let told = g.S.MetaRead.store c.args.store.now in
-    let now = g.S.MetaRead.store c.loop-i.store in
-    let l = c.loop-i in
-    let read = c.geometry.ensures.value in
-    let after = c.push.new.self in
-    let count : c.geometry.result.now.groups * c.geometry.result.now.ipg ≡ inodes_of told.geometry = ap inodes_of read in
-    let below : l.i < inodes_of told.geometry = omega (arith, c.loop-i-test.true, l.auto.i-end, count) in
-    record {
-      held = subst (λ (content : Option Image). AreOfRow (g.S.MetaRead.store c.inode_record.new.store).geometry content c.inode_record.new.window.row c.inode_record.new.window.bytes)
-          (sym c.in_ok-inode_record.ensures.unchanged.content)
-          (subst (λ (h : Geometry). AreOfRow h now.content c.inode_record.new.window.row c.inode_record.new.window.bytes) (sym c.in_ok-inode_record.ensures.unchanged.geometry)
-          c.in_ok-inode_record.ensures.held);
-      kept = inodes_more told.geometry now.geometry c.geometry.result.now told.content now.content l.i c.in_ok-inode_record.field-0 c.in-Some.inode l.inodes after
-          l.invariant.unchanged.geometry read l.invariant.unchanged.content below (sym c.allowed.ensures ∙ c.in-Some.is) c.in_ok-inode_record.ensures.value
-          c.in_ok-push-in-Some.ensures.kept l.invariant.kept;
-      room = subst (λ (k : Geometry). HasKept k (l.i + 1) after.briefs.items after.unsettled.items after.claims) read c.in_ok-push-in-Some.ensures.room;
-      unchanged = unchanged_then l.invariant.unchanged c.in_ok-inode_record.ensures.unchanged;
-      none_failed = none_then l.invariant.none_failed c.in_ok-inode_record.ensures.failure;
-    }
+pub returns-in_err-read_table-clause-part : goal.returns-in_err-read_table-clause-part
+returns-in_err-read_table-clause-part g c =
+    let l = c.loop-n in
+    table_stopped (λ h blocks k. AreKept h blocks (inodes_of h) k.briefs.items k.unsettled.items k.claims) (g.S.MetaRead.store c.args.store.now) (g.S.MetaRead.store l.store) l.n l.inodes c.read_table.new.inodes
+    c.in_err-read_table.field-0.0 c.from_residual-in_err-read_table.result l.invariant.unchanged c.requires.groups l.invariant.kept c.in_err-read_table.ensures.part
+    c.from_residual-in_err-read_table.ensures.1
 
-pub returns-in-None-clause-part : goal.returns-in-None-clause-part
-returns-in-None-clause-part g c =
-    let told = g.S.MetaRead.store c.args.store.now in
-    let now = g.S.MetaRead.store c.loop-i.store in
-    let l = c.loop-i in
-    let count : c.geometry.result.now.groups * c.geometry.result.now.ipg ≡ inodes_of told.geometry = ap inodes_of c.geometry.ensures.value in
-    inode_wrong told.geometry now.geometry told.content now.content l.inodes l.i c.in_ok-inode_record.field-0 l.invariant.unchanged.geometry l.invariant.unchanged.content
-    l.invariant.room.briefs_size (omega (arith, c.loop-i-test.true, l.auto.i-end, count)) (sym c.allowed.ensures ∙ c.in-None.is) c.requires.groups
-    c.in_ok-inode_record.ensures.value l.invariant.kept
+pub returns-in_err-read_table-clause-failure : goal.returns-in_err-read_table-clause-failure
+returns-in_err-read_table-clause-failure g c =
+    let result = c.from_residual-in_err-read_table.result in
+    let stop = c.in_err-read_table.field-0.0 in
+    let given = c.from_residual-in_err-read_table.ensures.1 in
+    fails_last c.loop-n.invariant.none_failed (error_back result stop (Failed Disk) given) (error_on result stop (Failed Disk) given) c.in_err-read_table.ensures.failure
+
+pub loop-n-preserved : goal.loop-n-preserved
+loop-n-preserved g c =
+    let old = g.S.MetaRead.store c.args.store.now in
+    let l = c.loop-n in
+    let out = c.read_table.new.table in
+    let ensures = c.in_ok-read_table.ensures in
+    record {
+      size = omega (arith, length-take l.table.len (out ++ drop (length out) l.table.items), length-append out (drop (length out) l.table.items), length-drop (length out) l.table.items, c.read_table.auto.table, c.deref_mut.ensures.len, l.invariant.size);
+      kept = table_more old (g.S.MetaRead.store l.store) l.n l.inodes c.read_table.new.inodes c.in_ok-read_table.field-0 l.invariant.unchanged c.requires.groups l.invariant.kept ensures.part;
+      room = subst (λ (h : Geometry). HasKept h ((l.n + 1) * h.ipg) c.read_table.new.inodes.briefs.items c.read_table.new.inodes.unsettled.items c.read_table.new.inodes.claims) l.invariant.unchanged.geometry ensures.room;
+      unchanged = unchanged_then l.invariant.unchanged ensures.unchanged;
+      none_failed = none_then l.invariant.none_failed (ensures.failure.none (λ never. cc));
+    }
