@@ -1,9 +1,11 @@
 //! The text of a listing, which has a line for each transaction.
 ghost use Rattle.std.specs.Prelude.{◌≡◌, ◌≤◌, ◌*◌, ◌^◌, ◌<◌, length, string_bytes, sum_by, IfOk, OnOk, ◌++◌};
+ghost use Rattle.std.specs.Fmt.{decimal};
 ghost use Rattle.volume_model.specs.Texts.{header_line};
 ghost use Rattle.lufs_base.specs.Layout.{IsGeometry};
 ghost use Rattle.lufs_top.specs.Listing.{summed_line, total_line, listing_text};
 
+use itoa::Buffer;
 use log_scan::{Header, TxSummaries, TxSummary};
 use lufs_base::{Geometry, Mem};
 use std::alloc::Global;
@@ -18,17 +20,24 @@ fn total_sectors(txs: &[TxSummary]) -> u128
     sectors
 }
 
+// Appends words with a space at their end, and a number after them.
+fn push_field(text: &mut String, words: &str, number: u32) -> Result<(), Mem>
+    ensures { OnOk result (string_bytes text.new ≡ string_bytes text.old ++ (words.now ++ decimal number)) }
+{
+    let mut buffer = Buffer::new();
+    text.push_str(words)?;
+    text.push_str(buffer.format(number))?;
+    Ok(())
+}
+
 fn push_tx(text: &mut String, tx: &TxSummary) -> Result<(), Mem>
     ensures { OnOk result (string_bytes text.new ≡ string_bytes text.old ++ summed_line tx.now) }
 {
-    let tid = tx.tid;
-    let sectors = tx.sectors;
-    let deltas = tx.deltas;
-    let bytes = tx.bytes;
-    write!(
-        text,
-        "tx {tid} sectors {sectors} deltas {deltas} bytes {bytes}\n"
-    )?;
+    push_field(text, "tx ", tx.tid)?;
+    push_field(text, " sectors ", tx.sectors)?;
+    push_field(text, " deltas ", tx.deltas)?;
+    push_field(text, " bytes ", tx.bytes)?;
+    text.push('\n')?;
     Ok(())
 }
 
