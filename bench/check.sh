@@ -4,7 +4,7 @@
 # beside this, says what is measured. It wants bash 5, python3 and the built program; /usr/bin/time where it is there.
 . "$(dirname "${BASH_SOURCE[0]}")/common.sh"
 
-rounds=${ROUNDS:-7}
+rounds=${ROUNDS:-15}
 here=$(cd "$(dirname "${BASH_SOURCE[0]}")" && pwd)
 PATH=$PATH:/usr/sbin:/sbin
 
@@ -45,22 +45,27 @@ add() {
     commands+=("$*")
 }
 
-# compare: times the cases that were added, of which each round runs each once from the cache and once from the disk,
-# and prints a line for each: the medians of both, and the peak memory.
+# compare: times the cases that were added, each once a round, and prints a line for each: the medians of the rounds
+# from the cache, and of those from the disk after them, and the peak memory.
 compare() {
     local round k before times
     before=$(load)
     for k in "${!names[@]}"; do
         times[k]=
         times[k + 100]=
+        ${commands[k]} >/dev/null 2>&1
+    done
+    for ((round = 0; round < rounds; round++)); do
+        for k in "${!names[@]}"; do
+            timed ${commands[k]}
+            times[k]+=" $took"
+        done
     done
     for ((round = 0; round < rounds; round++)); do
         for k in "${!names[@]}"; do
             forget "${files[k]}"
             timed ${commands[k]}
             times[k + 100]+=" $took"
-            timed ${commands[k]}
-            times[k]+=" $took"
         done
     done
     for k in "${!names[@]}"; do

@@ -331,12 +331,13 @@ read 3 512 bytes at 12288
 read 3 65536 bytes at 12800
 close 3
 print 52" "$(calls scan new)"
-# A volume of 200 files in two directories. Read are the superblock, the log's header and its ring, 64 group
-# blocks, 2,048 inode blocks, three directories of a block each, and ten pointer blocks; of the 310 blocks of
+# A volume of 200 files in two directories. Read are the superblock, the log's header and its ring, 64 group blocks, the
+# 32 inode blocks of each group at once, three directories of a block each, and ten pointer blocks; of the 310 blocks of
 # files none.
 python3 "$crate/../../bench/make_volume.py" files files 200
 calls check files | grep '^read 3' >reads
-is 'check of files reads each block of metadata' 2128 "$(wc -l <reads)"
-is 'and each once' 2128 "$(sort -u reads | wc -l)"
+is 'check of files reads a row of blocks at once' 144 "$(wc -l <reads)"
+is 'it reads each block of metadata' 8770560 "$(awk '{bytes += $3} END {print bytes}' reads)"
+is 'and each once' 144 "$(sort -u reads | wc -l)"
 is 'and nothing is written' '' "$(calls check files | grep -E '^(write 3|sync|length)')"
 exit $failed
