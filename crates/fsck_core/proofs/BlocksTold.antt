@@ -1,18 +1,16 @@
 -- What is read of the blocks that a store tells.
-use Rattle.std.proofs.Common.{◌≡◌, ◌<◌, ℕ, zero, suc, ◌+◌, ◌-◌, ◌*◌, ◌≤◌, ◌/◌, ◌%◌, eqb, Bool, true, false, if◌then◌else◌, List, ◌∷◌, ◌++◌, map, length, take, drop, replicate, slice_index, Option, Some, None, IfSome, option_map, refl, sym, ap, subst, ◌∙◌, arith}
+use Rattle.std.proofs.Common.{◌≡◌, ◌<◌, ℕ, zero, suc, ◌+◌, ◌-◌, ◌*◌, ◌≤◌, eqb, Bool, false, if◌then◌else◌, List, ◌∷◌, ◌++◌, map, length, take, drop, replicate, slice_index, Option, Some, None, IfSome, option_map, refl, sym, ap, ◌∙◌, arith}
 use Rattle.std.proofs.lemmas.Bool.{ne_eqb}
 use Rattle.std.proofs.Math.Seq.{take-append_seam}
 use Rattle.std.proofs.lemmas.List.{append-nil, append_assoc, drop-drop, drop-replicate, length-append, length-map}
 use Rattle.std.proofs.lemmas.List.FromFn.{length-range_with_len}
 use Rattle.std.specs.List.{range_with_len}
 use borrow.Rule.Slice.PartMut.{put_mid}
-use Rattle.std.proofs.Math.Nat.{mod-lt, div-lt_iff_lt-mul}
-use Rattle.lufs_base.proofs.Places.{group_fits}
-use Rattle.lufs_base.specs.Fields.{number_in, u32_at, are_zeros}
-use Rattle.lufs_base.specs.Layout.{IsGeometry, group_start, inode_address, blocks_of}
+use Rattle.lufs_base.specs.Fields.{number_in, u32_at}
+use Rattle.lufs_base.specs.Layout.{group_start}
 use Rattle.lufs_base.specs.declared.geometry.Geometry.{Geometry}
 use Rattle.volume_model.specs.declared.inode.Dinode.{Dinode}
-use Rattle.volume_model.specs.Format.{Image, block, group_of, is_dinode, named_dinode, dinode_of, inodes_of, pointers_of}
+use Rattle.volume_model.specs.Format.{Image, block, group_of, pointers_of}
 use Rattle.volume_model.specs.Sound.{group_at, pointers_at, numbers_of}
 use Rattle.cyl_groups.specs.declared.group.Group.{Group}
 use Rattle.cyl_groups.specs.Group.{record_of}
@@ -28,25 +26,6 @@ group_told g read (Some image) n b bytes found read_as geometry place told same 
     ap (option_map record_of) same ∙ value
     ∙ ap (λ (xs : List ℕ). group_of read n (take 416 xs)) (told ∙ ap (block image) place)
     ∙ ap (λ (h : Geometry). group_at h (block image) n) geometry
-
--- a record of zeros is a free one
-pub free_record : (version : ℕ) (bytes : List ℕ) → are_zeros bytes ≡ true → Some None ≡ dinode_of version bytes
-unfolding dinode_of
-free_record version bytes zeros =
-    sym (ap (λ (b : Bool). if b then Some None else (if is_dinode version bytes then Some (Some (named_dinode bytes)) else None)) zeros)
-
--- the block of an inode's record is one of the volume
-pub inode_block_inside : (g read : Geometry) (i place b : ℕ) → read ≡ g → IsGeometry g → i < inodes_of g → place ≡ inode_address read i → b ≡ place / 4096
-    → b < blocks_of g
-inode_block_inside g read i place b geometry so within at number =
-    let ok : IsGeometry read = subst (λ (h : Geometry). IsGeometry h) (sym geometry) so in
-    let some : 0 < read.ipg = omega (arith, ok.ipg_low) in
-    let below : i < inodes_of read = subst (λ (h : Geometry). i < inodes_of h) (sym geometry) within in
-    let group : i / read.ipg < read.groups = (div-lt_iff_lt-mul some).1 below in
-    let place_in : i % read.ipg < read.ipg = mod-lt i some in
-    let is : b ≡ group_start read (i / read.ipg) + 1 + (i % read.ipg) / 32 = omega (arith, at, number) in
-    let inside : b < blocks_of read = omega (arith, is, place_in, ok.ipg_step, ok.room, group_fits read (i / read.ipg) group) in
-    subst (λ (h : Geometry). b < blocks_of h) geometry inside
 
 -- the numbers of an inode, put in two parts
 parts_put : (old first rest : List ℕ) (k n : ℕ) → length first ≡ 12 → length old ≡ 1036 → length rest ≡ k → take (12 + k) (put_mid 12 n (put_mid 0 12 old first) rest) ≡ first ++ rest

@@ -1,5 +1,5 @@
 -- What a check knows of a store while it reads one record after the other.
-use Rattle.std.proofs.Common.{◌≡◌, ◌<◌, ◌≤◌, ◌+◌, ◌*◌, ℕ, Bool, true, List, [], ◌∷◌, ◌++◌, length, Option, Some, None, IfSome, option_map, refl, sym, ap, subst, ◌∙◌, arith}
+use Rattle.std.proofs.Common.{◌≡◌, ◌<◌, ◌≤◌, ◌+◌, ◌*◌, ℕ, true, List, [], ◌∷◌, ◌++◌, length, Option, Some, None, IfSome, option_map, refl, sym, ap, subst, ◌∙◌, arith, length-append}
 use Rattle.std.proofs.Math.Nat.{mul-le-mul_right}
 use Rattle.std.proofs.lemmas.Bool.{lt-ltb}
 use Rattle.volume_model.specs.declared.inode.Dinode.{Dinode}
@@ -13,9 +13,9 @@ use Rattle.fsck_core.specs.declared.inodes.Inodes.{Inodes}
 use Rattle.fsck_core.specs.declared.claims.Claims.{Claims}
 use Rattle.fsck_core.specs.declared.inodes.Brief.{Brief}
 use Rattle.fsck_core.specs.declared.inodes.Unsettled.{Unsettled}
-use Rattle.fsck_core.specs.Inodes.{AreKept}
+use Rattle.fsck_core.specs.Inodes.{AreKept, HasKept}
 use Rattle.fsck_core.specs.Tables.{AreGroups}
-use Rattle.fsck_core.proofs.KeptInodes.{briefs_size}
+use Rattle.fsck_core.proofs.KeptInodes.{briefs_size, kept_none}
 use Rattle.fsck_core.proofs.RecordSteps.{more_groups, bad_group_found, bad_inode_found}
 
 -- before the first group
@@ -43,9 +43,6 @@ group_missing g h (Some image) now groups n found geometry same size below is to
     ap (group_at g (block image)) size ∙ ap (λ (k : Geometry). group_at k (block image) n) (sym geometry) ∙ sym here ∙ ap (option_map record_of) is in
     bad_group_found g (block image) groups before (omega (arith, size, below)) next ∙ ap (λ (k : ℕ). Some (of_groups, k)) size
 
-none_is_some : {X : Type 0} (x : X) → None ≡ Some x → ⊥
-none_is_some x is = cc
-
 -- an inode whose record the check may not keep is what it finds
 pub inode_bad : (g : Geometry) (blocks : Blocks) (n : ℕ) (briefs : List (Option Brief)) (unsettled : List Unsettled) (claims : Claims) → length briefs ≡ n → n < inodes_of g
     → first_of_kind g (reading_of g blocks) [] of_groups ≡ None → is_bad_state n (Some (state_of blocks (inode_at g blocks n))) ≡ true → AreKept g blocks n briefs unsettled claims
@@ -71,10 +68,20 @@ inside_volume g n k group within =
     let apart : (n + 1) * g.ipg ≡ n * g.ipg + g.ipg = omega arith in
     omega (arith, whole, apart, within)
 
--- in a volume whose content is told
-pub told_begun : (g : Geometry) (content : Option Image) (k : Inodes) → ((blocks : Blocks) → AreKept g blocks 0 k.briefs.items k.unsettled.items k.claims)
-    → IfSome content (λ image. AreKept g (block image) (0 * g.ipg) k.briefs.items k.unsettled.items k.claims)
-told_begun g None k are = tt
-told_begun g (Some image) k are =
-    let none : 0 ≡ 0 * g.ipg = omega arith in
-    subst (λ (n : ℕ). AreKept g (block image) n k.briefs.items k.unsettled.items k.claims) none (are (block image))
+-- an inode that isn't in use is kept as the next one
+pub free_kept : (g : Geometry) (blocks : Blocks) (n : ℕ) (before after : Inodes) → length before.briefs.items ≡ n → n < inodes_of g → inode_at g blocks n ≡ Some None
+    → after.briefs.items ≡ before.briefs.items ++ None ∷ [] → after.unsettled ≡ before.unsettled → after.claims ≡ before.claims
+    → AreKept g blocks n before.briefs.items before.unsettled.items before.claims → AreKept g blocks (n + 1) after.briefs.items after.unsettled.items after.claims
+free_kept g blocks n before after size below next pushed unsettled claims kept =
+    subst (λ (c : Claims). AreKept g blocks (n + 1) after.briefs.items after.unsettled.items c) (sym claims)
+    (subst (λ (l : List Unsettled). AreKept g blocks (n + 1) after.briefs.items l before.claims) (sym (ap (λ v. v.items) unsettled))
+    (kept_none g blocks n before.briefs.items after.briefs.items before.unsettled.items before.claims size below next pushed kept))
+
+pub free_room : (g : Geometry) (n : ℕ) (before after : Inodes) → after.briefs.items ≡ before.briefs.items ++ None ∷ [] → after.unsettled ≡ before.unsettled → after.claims ≡ before.claims
+    → HasKept g n before.briefs.items before.unsettled.items before.claims → HasKept g (n + 1) after.briefs.items after.unsettled.items after.claims
+free_room g n before after pushed unsettled claims room = record {
+  briefs_size = ap length pushed ∙ omega (arith, room.briefs_size, length-append before.briefs.items (None ∷ []));
+  unsettled_most = omega (arith, room.unsettled_most, ap (λ v. length v.items) unsettled);
+  bits = omega (arith, room.bits, ap (λ (c : Claims). length c.bits.items) claims);
+  count = omega (arith, room.count, ap (λ (c : Claims). c.count) claims);
+}

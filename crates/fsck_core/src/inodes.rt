@@ -1,8 +1,7 @@
 //! What a check keeps of the inodes as it reads them. Most inodes are settled by their record alone, so that only their
 //! type and their links are kept.
-ghost use Rattle.std.specs.Prelude.{◌≡◌, ◌<◌, ◌≤◌, ◌+◌, ◌*◌, ℕ, true, All, length, take, Some, None, OnOk, IfOk, IsTrue};
+ghost use Rattle.std.specs.Prelude.{◌≡◌, ◌<◌, ◌≤◌, ◌+◌, ◌*◌, ◌++◌, ◌∷◌, [], true, All, length, take, Some, None, OnOk, IfOk, IsTrue};
 ghost use Rattle.lufs_base.specs.Layout.{IsGeometry};
-ghost use Rattle.lufs_base.specs.declared.geometry.Geometry.{Geometry as IsOfGeometry};
 ghost use Rattle.volume_model.specs.Format.{Blocks, inodes_of, is_body};
 ghost use Rattle.volume_model.specs.Sound.{inode_at, size_in_blocks};
 ghost use Rattle.fsck_core.specs.Claimed.{blocks_claimed};
@@ -97,11 +96,9 @@ impl Inodes {
 
     /// Keeps the next inode, which isn't in use.
     pub(crate) fn push_free(&mut self) -> Result<(), Mem>
-        ensures kept { (g : IsOfGeometry) (blocks : Blocks) (i : ℕ) → i < inodes_of g → inode_at g blocks i ≡ Some None → length self.old.briefs.items ≡ i
-            → AreKept g blocks i self.old.briefs.items self.old.unsettled.items self.old.claims
-            → OnOk result (AreKept g blocks (i + 1) self.new.briefs.items self.new.unsettled.items self.new.claims) }
-        ensures room { (g : IsOfGeometry) (i : ℕ) → HasKept g i self.old.briefs.items self.old.unsettled.items self.old.claims
-            → OnOk result (HasKept g (i + 1) self.new.briefs.items self.new.unsettled.items self.new.claims) }
+        ensures briefs { OnOk result (self.new.briefs.items ≡ self.old.briefs.items ++ None ∷ []) }
+        ensures unsettled { self.new.unsettled ≡ self.old.unsettled }
+        ensures claims { self.new.claims ≡ self.old.claims }
     {
         Ok(self.briefs.push(None)?)
     }

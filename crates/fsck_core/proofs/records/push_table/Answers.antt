@@ -1,13 +1,13 @@
-use Rattle.std.proofs.Common.{◌≡◌, ◌<◌, ◌+◌, ◌-◌, ◌*◌, ℕ, List, take, drop, length, Option, Some, None, sym, ap, subst, ◌∙◌, arith}
+use Rattle.std.proofs.Common.{◌≡◌, ◌<◌, ◌+◌, ◌-◌, ◌*◌, ℕ, Option, Some, None, sym, ap, subst, ◌∙◌, arith}
 use Rattle.std.specs.Result.{result_ok}
 use Rattle.volume_model.specs.declared.inode.Dinode.{Dinode}
-use Rattle.volume_model.specs.Format.{Blocks, dinode_of, inodes_of}
+use Rattle.volume_model.specs.Format.{Blocks}
 use Rattle.volume_model.specs.Sound.{inode_at}
 use Rattle.fsck_core.specs.declared.inodes.Inodes.{Inodes}
 use Rattle.fsck_core.specs.Inodes.{AreKept, HasKept}
 use Rattle.fsck_core.specs.Tables.{AreOfGroup}
 use Rattle.fsck_core.proofs.InodeRows.{told_in_group}
-use Rattle.fsck_core.proofs.RecordLoops.{inode_bad, no_record_is_bad, low_in_use_is_bad, inside_volume}
+use Rattle.fsck_core.proofs.RecordLoops.{inode_bad, no_record_is_bad, low_in_use_is_bad, inside_volume, free_kept, free_room}
 use Rattle.fsck_core.proofs.records.push_table.Goals as goal
 use Rattle.fsck_core.proofs.records.push_table.Goals.{in-Ok-None+in_ok-push_free-in-Ok-None, in-Ok-Some+in_ok-push_used-in-Ok-Some}
 
@@ -48,14 +48,16 @@ loop-k-preserved c =
     elim c.match-read_dinode-2.branch [
       | in-Ok-None+in_ok-push_free-in-Ok-None w ↦
           let is : result_ok c.read_dinode.result ≡ Some None = cc in
+          let ensures = w.in_ok-push_free-in-Ok-None.ensures in
           record {
             kept = λ blocks are kept.
                 subst (λ (n : ℕ). AreKept g blocks n after.briefs.items after.unsettled.items after.claims) next
                 (subst (λ (s : Inodes). AreKept g blocks (i + 1) s.briefs.items s.unsettled.items s.claims) (sym w.inodes-is)
-                (w.in_ok-push_free-in-Ok-None.ensures.kept g blocks i below (told blocks are ∙ is) l.invariant.room.briefs_size (l.invariant.kept blocks are kept)));
+                (free_kept g blocks i l.inodes w.push_free.new.self l.invariant.room.briefs_size below (told blocks are ∙ is) ensures.briefs ensures.unsettled ensures.claims
+                (l.invariant.kept blocks are kept)));
             room = subst (λ (n : ℕ). HasKept g n after.briefs.items after.unsettled.items after.claims) next
                 (subst (λ (s : Inodes). HasKept g (i + 1) s.briefs.items s.unsettled.items s.claims) (sym w.inodes-is)
-                (w.in_ok-push_free-in-Ok-None.ensures.room g i l.invariant.room));
+                (free_room g i l.inodes w.push_free.new.self ensures.briefs ensures.unsettled ensures.claims l.invariant.room));
           }
       | in-Ok-Some+in_ok-push_used-in-Ok-Some w ↦
           record {

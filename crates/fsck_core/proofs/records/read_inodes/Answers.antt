@@ -1,4 +1,4 @@
-use Rattle.std.proofs.Common.{◌≡◌, ◌+◌, ◌*◌, ◌++◌, length, take, drop, subst, arith, length-take, length-drop, length-append}
+use Rattle.std.proofs.Common.{◌+◌, ◌*◌, ◌++◌, length, drop, subst, arith, length-take, length-drop, length-append}
 use Rattle.lufs_base.specs.declared.geometry.Geometry.{Geometry}
 use Rattle.volume_model.specs.Format.{inodes_of}
 use Rattle.meta_store.specs.declared.error.StoreError.TheVariants.{Disk}

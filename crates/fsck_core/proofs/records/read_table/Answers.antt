@@ -1,4 +1,4 @@
-use Rattle.std.proofs.Common.{◌+◌, ap, ◌∙◌}
+use Rattle.std.proofs.Common.{◌+◌, ap}
 use Rattle.volume_model.specs.Format.{block}
 use Rattle.fsck_core.proofs.TableLoop.{table_told}
 use Rattle.fsck_core.proofs.records.read_table.Goals as goal
