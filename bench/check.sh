@@ -45,8 +45,8 @@ add() {
     commands+=("$*")
 }
 
-# compare: times the cases that were added, each once a round, and prints a line for each: the medians of the rounds
-# from the cache, and of those from the disk after them, and the peak memory.
+# compare: times the cases that were added, and prints a line for each: the medians of the rounds from the cache, which
+# each case is in after a run that isn't timed, and of those from the disk after them, and the peak memory.
 compare() {
     local round k before times
     before=$(load)

@@ -336,8 +336,8 @@ print 52" "$(calls scan new)"
 # files none.
 python3 "$crate/../../bench/make_volume.py" files files 200
 calls check files | grep '^read 3' >reads
-is 'check of files reads a row of blocks at once' 144 "$(wc -l <reads)"
+is 'check of files takes the inode blocks of a group by one read' 64 "$(grep -c ' 131072 bytes' reads)"
 is 'it reads each block of metadata' 8770560 "$(awk '{bytes += $3} END {print bytes}' reads)"
-is 'and each once' 144 "$(sort -u reads | wc -l)"
+is 'and none twice' 0 "$(sort -n -k6 reads | awk '$6 < end {twice++} {end = $6 + $3} END {print twice + 0}')"
 is 'and nothing is written' '' "$(calls check files | grep -E '^(write 3|sync|length)')"
 exit $failed
