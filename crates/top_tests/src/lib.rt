@@ -3,6 +3,12 @@
 #![tactic(auto)]
 
 #[cfg(test)]
-mod commands;
+mod check;
+#[cfg(test)]
+mod mkfs;
+#[cfg(test)]
+mod scan;
 #[cfg(test)]
 mod sessions;
+#[cfg(test)]
+mod volumes;

@@ -1,7 +1,7 @@
 //! Sessions of `drive` over a host in memory: what they answer and leave, what they refuse, and each call that fails.
 ghost use Rattle.std.specs.Prelude.{◌≡◌, ◌%◌, length};
 
-use crate::commands::{made, put, run_words};
+use crate::volumes::{made, put, run_words};
 use host_io::MemHost;
 use lufs_base::Mem;
 use sector_disk::{Fail, MemDisk};
