@@ -1,0 +1,42 @@
+//! The time of an inode, set in a draft.
+ghost use Rattle.std.specs.Prelude.{◌≡◌, ◌≤◌, ◌+◌, OnOk, IsErrOf};
+ghost use Rattle.volume_model.specs.Log.{delta_bytes};
+ghost use Rattle.sector_disk.specs.Disk.{FailsJustAt};
+ghost use Rattle.history_model.specs.Edits.{SetTime, edited};
+ghost use Rattle.meta_store.specs.Store.{IsUnchanged};
+ghost use Rattle.meta_store.specs.Changing.{IsKept};
+ghost use Rattle.meta_store.specs.declared.error.StoreError.TheVariants.{Disk};
+ghost use Rattle.dir_ops.specs.Edits.{IsEdited, PutsDeltas};
+
+use lufs_base::Ino;
+use meta_draft::Draft;
+use meta_store::{MetaRead, StoreError};
+use std::alloc::Global;
+
+/// Sets the time of inode `i` to this moment, in seconds since 1970. One that isn't in use stays so. After an `Err` the
+/// draft is of no use.
+pub fn set_time<S: MetaRead>(
+    alloc: Global,
+    draft: &mut Draft,
+    store: &mut S,
+    i: Ino,
+    moment: u64,
+) -> Result<(), StoreError>
+    ensures drawn { IsEdited (S.store store.old) draft.old.change draft.new.change i.0 (edited (SetTime i.0 moment)) result }
+    ensures rest { OnOk result (PutsDeltas draft.old.change draft.new.change) }
+    ensures growth { delta_bytes draft.new.change.deltas ≤ delta_bytes draft.old.change.deltas + 144 }
+    ensures unchanged { IsUnchanged (S.store store.old) (S.store store.new) }
+    ensures kept { IsKept (S.changing store.old) (S.changing store.new) }
+    ensures failure { FailsJustAt (IsErrOf result Disk) (S.store store.old).disk (S.store store.new).disk }
+{
+    let g = *store.geometry();
+    if !g.is_inode(i) {
+        return Ok(());
+    }
+    let Some(mut d) = draft.inode(store, i)? else {
+        return Ok(());
+    };
+    d.mtime = moment;
+    draft.put_inode(alloc, &g, i, Some(&d))?;
+    Ok(())
+}
