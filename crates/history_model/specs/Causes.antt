@@ -10,7 +10,7 @@ use Rattle.tree_types.specs.declared.waiting.Cause.TheVariants as cause
 use Rattle.tree_types.specs.declared.history.Entry.{Entry}
 use Rattle.tree_types.specs.declared.history.Commit.{Commit}
 use Rattle.history_model.specs.Histories.{History, entry_at}
-use Rattle.history_model.specs.Reservation.{Fits}
+use Rattle.volume_model.specs.Log.{Fits}
 
 -- The bytes of the schedule that the session was driven by; none where streams ran by themselves until the volume was
 -- unmounted.

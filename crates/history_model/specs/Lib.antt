@@ -19,9 +19,5 @@ pub mod Causes
 pub mod Touched
 pub mod CrashSafety
 pub mod HistoryText
-pub mod WorkedHistories
-pub mod WorkedImages
-pub mod Made
-pub mod Used
 pub mod Right
 pub mod Ranges

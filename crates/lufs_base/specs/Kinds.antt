@@ -12,3 +12,11 @@ has_bytes Pointers = true
 has_bytes Zero = false
 has_bytes LinkText = true
 has_bytes Cancel = false
+
+abbrev pub is_zero_block : DeltaKind → Bool
+is_zero_block Zero = true
+is_zero_block kind = false
+
+abbrev pub is_cancel : DeltaKind → Bool
+is_cancel Cancel = true
+is_cancel kind = false

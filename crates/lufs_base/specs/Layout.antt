@@ -1,5 +1,5 @@
 -- Where the parts of a volume lie.
-use Rattle.std.specs.Prelude.{◌≡◌, ◌<◌, ◌≤◌, ℕ, ◌+◌, ◌-◌, ◌*◌, ◌/◌, ◌%◌, ◌==◌, nat_lt, nat_le, Bool, ◌&&◌, if◌then◌else◌}
+use Rattle.std.specs.Prelude.{◌≡◌, ◌<◌, ◌≤◌, ℕ, ◌+◌, ◌-◌, ◌*◌, ◌/◌, ◌%◌, ◌==◌, nat_lt, nat_le, Bool, true, false, ◌&&◌, if◌then◌else◌}
 use Rattle.lufs_base.specs.declared.geometry.Geometry.{Geometry}
 use Rattle.lufs_base.specs.declared.geometry.Region.{Region}
 use Rattle.lufs_base.specs.declared.geometry.Region.TheVariants.{Boot, Super, Log, GroupBlock, Inodes, Body}
@@ -85,3 +85,15 @@ InRegion g b Log = (3 ≤ b) × (b < group_start g 0)
 InRegion g b (GroupBlock n) = (n < g.groups) × (b ≡ group_start g n)
 InRegion g b (Inodes n) = (n < g.groups) × (group_start g n < b) × (b ≤ group_start g n + g.ipg / 32)
 InRegion g b (Body n) = (n < g.groups) × (group_start g n + g.ipg / 32 < b) × (b < group_start g (n + 1))
+
+-- how many inodes the volume has, in use or not
+abbrev pub inodes_of : Geometry → ℕ
+inodes_of g = g.groups * g.ipg
+
+abbrev pub is_body_region : Region → Bool
+is_body_region (Body n) = true
+is_body_region r = false
+
+-- block b is a body block of the volume
+abbrev pub is_body : Geometry → ℕ → Bool
+is_body g b = nat_lt b (blocks_of g) && is_body_region (region_of g b)

@@ -1,13 +1,13 @@
 //! One logged change of metadata, and lists of them.
 ghost use Rattle.std.specs.Prelude.{◌≡◌, ◌∷◌, ◌++◌, [], length, OnOk, OnErr};
-ghost use Rattle.lufs_base.specs.Kinds.{has_bytes};
+ghost use Rattle.lufs_base.specs.Kinds.{has_bytes, is_zero_block, is_cancel};
 
 use crate::{Bytes, Mem};
 use std::alloc::Global;
 use std::marker::Model;
 
 /// What a logged change is a change of (`docs/FORMAT.md`, "Log records").
-#[derive(Clone, Copy, Debug, PartialEq, Eq, Hash)]
+#[derive(Clone, Copy, Debug, PartialEq, Eq)]
 pub enum DeltaKind {
     /// A group record.
     Group,
@@ -31,6 +31,20 @@ impl DeltaKind {
         ensures { result ≡ has_bytes self }
     {
         !matches!(self, DeltaKind::Zero | DeltaKind::Cancel)
+    }
+
+    /// Whether it is a block of zeros.
+    pub fn is_zero_block(self) -> bool
+        ensures { result ≡ is_zero_block self }
+    {
+        matches!(self, DeltaKind::Zero)
+    }
+
+    /// Whether it makes older deltas of its block void.
+    pub fn is_cancel(self) -> bool
+        ensures { result ≡ is_cancel self }
+    {
+        matches!(self, DeltaKind::Cancel)
     }
 }
 

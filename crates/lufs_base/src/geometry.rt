@@ -1,8 +1,8 @@
 //! The numbers that a volume is laid out by, and where each of its parts lies.
-ghost use Rattle.std.specs.Prelude.{◌≡◌, ℕ, ◌<◌, ◌*◌};
+ghost use Rattle.std.specs.Prelude.{◌≡◌, ℕ, ◌<◌, ◌≤◌, ◌*◌, ◌%◌, ◌^◌, nat_lt};
 ghost use Rattle.lufs_base.specs.declared.geometry.Geometry.{Geometry};
 ghost use Rattle.lufs_base.specs.declared.geometry.Region.{Region};
-ghost use Rattle.lufs_base.specs.Layout.{is_step, IsGeometry, blocks_of, ring_of, header_sector, ring_place, need_of, group_start, inode_address, region_of, InRegion};
+ghost use Rattle.lufs_base.specs.Layout.{is_step, IsGeometry, blocks_of, ring_of, header_sector, ring_place, need_of, group_start, inode_address, region_of, InRegion, inodes_of, is_body};
 
 use crate::{BlockNo, Ino};
 
@@ -27,7 +27,7 @@ pub fn is_step(low: u64, high: u64, step: u64, n: u64) -> bool
 }
 
 /// The numbers that a volume is laid out by (`docs/FORMAT.md`, "Layout").
-#[derive(Clone, Copy, Debug, PartialEq, Eq, Hash)]
+#[derive(Clone, Copy, Debug, PartialEq, Eq)]
 pub struct Geometry {
     pub version: u32,
     /// Groups of the volume.
@@ -41,7 +41,7 @@ pub struct Geometry {
 }
 
 /// What a block is for. A block of a group has the group's number.
-#[derive(Clone, Copy, Debug, PartialEq, Eq, Hash)]
+#[derive(Clone, Copy, Debug, PartialEq, Eq)]
 pub enum Region {
     Boot,
     Super,
@@ -111,6 +111,23 @@ impl Geometry {
         4096 * (u64::from(group.0) + 1) + 128 * u64::from(i.0 % self.ipg)
     }
 
+    /// Whether the volume has inode `i`.
+    pub fn is_inode(&self, i: Ino) -> bool
+        requires { IsGeometry self.now }
+        ensures { result ≡ nat_lt i.0 (inodes_of self.now) }
+    {
+        i.0 < self.groups * self.ipg
+    }
+
+    /// Whether block `b` is a body block of the volume.
+    pub fn is_body(&self, b: BlockNo) -> bool
+        requires { IsGeometry self.now }
+        ensures { result ≡ is_body self.now b.0 }
+    {
+        let first = self.group_block(0).0;
+        first <= b.0 && b.0 < self.total() && rest_of(b.0 - first, self.bpg) > self.ipg / 32
+    }
+
     /// What block `b` is for.
     pub fn region(&self, b: BlockNo) -> Region
         requires geometry { IsGeometry self.now }
@@ -135,6 +152,19 @@ impl Geometry {
                 }
             }
         }
+    }
+}
+
+// The rest of a division. Mostly a group has a power of two of blocks, and then no division is needed.
+fn rest_of(at: u32, n: u32) -> u32
+    requires some { 0 < n }
+    requires fits { n ≤ 2 ^ 31 }
+    ensures { result ≡ at % n }
+{
+    if n.next_power_of_two() == n {
+        at & (n - 1)
+    } else {
+        at % n
     }
 }
 

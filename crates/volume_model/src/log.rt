@@ -6,7 +6,7 @@ use std::alloc::Global;
 use std::marker::Model;
 
 /// The header of the log, in its first sector (`docs/FORMAT.md`, "Log header").
-#[derive(Clone, Copy, Debug, PartialEq, Eq, Hash)]
+#[derive(Clone, Copy, Debug, PartialEq, Eq)]
 pub struct Header {
     pub epoch: u32,
     /// The ring place where the first transaction begins.
@@ -16,7 +16,7 @@ pub struct Header {
 }
 
 /// The trailer of a log sector, in its last 8 bytes (`docs/FORMAT.md`, "Log sectors").
-#[derive(Clone, Copy, Debug, PartialEq, Eq, Hash)]
+#[derive(Clone, Copy, Debug, PartialEq, Eq)]
 pub struct Trailer {
     /// The transaction that the sector is of.
     pub tid: u32,

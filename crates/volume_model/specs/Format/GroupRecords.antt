@@ -1,5 +1,5 @@
 -- The record of a group: the first 416 bytes of its group block.
-use Rattle.std.specs.Prelude.{◌≡◌, ℕ, zero, suc, ◌+◌, ◌/◌, ◌%◌, ◌^◌, ◌<◌, ◌≤◌, ◌==◌, Bool, true, false, not, ◌&&◌, ◌||◌, if◌then◌else◌, List, ◌++◌, length, take, drop, replicate, slice_index, Option, Some, None}
+use Rattle.std.specs.Prelude.{◌≡◌, ◌≢◌, ℕ, zero, suc, ◌+◌, ◌/◌, ◌%◌, ◌^◌, ◌<◌, ◌≤◌, ◌==◌, Bool, true, false, not, ◌&&◌, ◌||◌, if◌then◌else◌, List, ◌++◌, length, take, drop, replicate, slice_index, Option, Some, None}
 use Rattle.std.specs.List.{list_all, range_with_len}
 use Rattle.lufs_base.specs.Fields.{u32_at, field_bytes, AreBytes, are_zeros}
 use Rattle.lufs_base.specs.declared.geometry.Geometry.{Geometry}
@@ -15,6 +15,11 @@ pub record GroupRecord : Type 0 where
 -- bit i of these bytes: bit i % 8, from the lowest, of byte i / 8
 abbrev pub bit_at : List ℕ → ℕ → Bool
 bit_at bits i = (slice_index bits (i / 8) / 2 ^ (i % 8)) % 2 == 1
+
+-- one bit has this value after, and all others are as they were
+pub record HasBit (place : ℕ) (value : Bool) (old new : List ℕ) : Type 0 where
+  pub bit : bit_at new place ≡ value
+  pub others : (other : ℕ) → other ≢ place → bit_at new other ≡ bit_at old other
 
 -- how many of the first n bits are clear
 unfoldable pub clear_bits : List ℕ → ℕ → ℕ

@@ -1,6 +1,6 @@
 -- The records of a transaction: which deltas may be logged, and in which order.
 use Rattle.std.specs.Prelude.{ℕ, ◌+◌, ◌/◌, ◌%◌, ◌==◌, nat_lt, nat_le, Bool, true, false, not, ◌&&◌, ◌||◌, if◌then◌else◌, List, [], ◌∷◌, Option, find, sum_by}
-use Rattle.lufs_base.specs.Kinds.{has_bytes}
+use Rattle.lufs_base.specs.Kinds.{has_bytes, is_zero_block, is_cancel}
 use Rattle.lufs_base.specs.Layout.{blocks_of, region_of}
 use Rattle.lufs_base.specs.declared.geometry.Geometry.{Geometry}
 use Rattle.lufs_base.specs.declared.geometry.Region.{Region}
@@ -68,14 +68,6 @@ is_part_of_block Cancel place len = place == 0 && len == 4096
 unfoldable pub may_be_logged : Geometry → DeltaKind → ℕ → ℕ → Bool
 may_be_logged g kind home len =
     nat_lt (home / 4096) (blocks_of g) && is_home_of kind (region_of g (home / 4096)) && is_part_of_block kind (home % 4096) len
-
-abbrev pub is_zero_block : DeltaKind → Bool
-is_zero_block Zero = true
-is_zero_block kind = false
-
-abbrev pub is_cancel : DeltaKind → Bool
-is_cancel Cancel = true
-is_cancel kind = false
 
 -- A delta may stand somewhere before another one in a transaction: homes rise, but a zero block may share
 -- its home with what is laid over it; logged bytes don't overlap; a cancelled block has no other delta.

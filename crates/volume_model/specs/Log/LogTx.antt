@@ -1,5 +1,5 @@
 -- A transaction as it is written to the log.
-use Rattle.std.specs.Prelude.{◌≡◌, ℕ, ◌+◌, ◌-◌, ◌*◌, ◌/◌, true, List, ◌++◌, length, map, replicate, All, AllPairs}
+use Rattle.std.specs.Prelude.{◌≡◌, ◌≤◌, ℕ, ◌+◌, ◌-◌, ◌*◌, ◌/◌, true, List, ◌++◌, length, map, replicate, All, AllPairs}
 use Rattle.std.specs.List.{flat_map}
 use Rattle.lufs_base.specs.Fields.{field_bytes}
 use Rattle.lufs_base.specs.Layout.{payload_size}
@@ -16,9 +16,18 @@ pub record AreLoggable (g : Geometry) (deltas : List Delta) : Type 0 where
   pub order : AllPairs (λ d later. may_precede d later.kind later.home ≡ true) deltas
   pub bytes : All (λ d. length d.bytes ≡ logged_len d.kind d.len) deltas
 
+-- the sectors of a transaction with so many bytes of deltas, whose commit record of 16 bytes follows them
+abbrev pub sectors_for : (bytes : ℕ) → ℕ
+sectors_for bytes = (bytes + 16 + (payload_size - 1)) / payload_size
+
 -- the sectors that their records take, the commit record among them
 abbrev pub tx_sectors : List Delta → ℕ
-tx_sectors deltas = (delta_bytes deltas + 16 + (payload_size - 1)) / payload_size
+tx_sectors deltas = sectors_for (delta_bytes deltas)
+
+-- Of a ring of so many sectors these are used by transactions and by the sealed one, and the running one would have so
+-- many bytes with this need: it has room.
+abbrev pub Fits : (ring used sealed pending need : ℕ) → Type 0
+Fits ring used sealed pending need = used + sealed + sectors_for (pending + need) ≤ ring
 
 -- the first bytes of a record
 abbrev pub record_head : (home len type : ℕ) → List ℕ

@@ -5,9 +5,12 @@ use Rattle.lufs_base.specs.declared.geometry.Geometry.{Geometry}
 use Rattle.lufs_base.specs.declared.delta.Delta.{Delta}
 use Rattle.volume_model.specs.declared.log.Tx.{Tx}
 use Rattle.volume_model.specs.Format.{Image}
-use Rattle.volume_model.specs.Log.LogRecord.{is_zero_block, is_cancel}
-use Rattle.lufs_base.specs.Kinds.{has_bytes}
+use Rattle.lufs_base.specs.Kinds.{has_bytes, is_zero_block, is_cancel}
 use Rattle.volume_model.specs.Log.Ring.{Log, NoHeader, WithHeader, Listed, BadRun, log_of}
+
+-- the delta lays bytes over block b
+abbrev pub lays_on : (b : ℕ) → Delta → Bool
+lays_on b d = d.home / 4096 == b && not (is_cancel d.kind)
 
 -- the transaction cancels this block
 abbrev pub cancels : ℕ → Tx → Bool

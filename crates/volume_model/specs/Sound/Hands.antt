@@ -1,5 +1,5 @@
 -- What calls that are under way hold of a volume: an inode and blocks that are free, but that no other call may take.
-use Rattle.std.specs.Prelude.{◌≡◌, ◌≢◌, ◌≤◌, ◌<◌, ℕ, ◌==◌, Bool, true, false, List, Option, None, All, AllPairs}
+use Rattle.std.specs.Prelude.{◌≡◌, ◌≢◌, ◌≤◌, ◌<◌, ℕ, ◌==◌, Bool, true, false, List, None, All, AllPairs}
 use Rattle.std.specs.List.{filter_map, flat_map, list_any}
 use Rattle.lufs_base.specs.declared.geometry.Geometry.{Geometry}
 use Rattle.volume_model.specs.declared.hand.Hand.{Hand}

@@ -1,11 +1,10 @@
 -- The three parts of what sound means: what is stored, the tree that the names make, and the links.
-use Rattle.std.specs.Prelude.{◌≡◌, ◌<◌, ℕ, true, false, not, List}
-use Rattle.std.specs.Option.{option_map_or}
+use Rattle.std.specs.Prelude.{◌≡◌, ◌<◌, ℕ, true, false, List}
 use Rattle.lufs_base.specs.Layout.{blocks_of}
 use Rattle.lufs_base.specs.declared.geometry.Geometry.{Geometry}
 use Rattle.volume_model.specs.declared.hand.Hand.{Hand}
 use Rattle.volume_model.specs.Format.{inodes_of}
-use Rattle.volume_model.specs.Sound.Readings.{Reading, inodes_in, used_at}
+use Rattle.volume_model.specs.Sound.Readings.{Reading, inodes_in}
 use Rattle.volume_model.specs.Sound.Hands.{AreApart}
 use Rattle.volume_model.specs.Sound.RecordRules.{is_bad_group, is_bad_inode, has_bad_numbers, has_links_out_of_range, is_claimed_twice}
 use Rattle.volume_model.specs.Sound.NameRules.{Names, is_directory_in, has_bad_slots, names_unused, has_bad_parent, has_bad_bytes, has_bad_links}

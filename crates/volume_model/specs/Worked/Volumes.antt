@@ -1,7 +1,6 @@
 -- The smallest volume as it was made, and with more in it, to compute the definitions on. Its one group has the group
 -- record in block 35, the inode records in block 36, and the root's chunk in block 37.
-use Rattle.std.specs.Prelude.{ℕ, zero, suc, ◌+◌, ◌-◌, ◌*◌, ◌==◌, true, false, List, [], ◌∷◌, ◌++◌, length, replicate, Some, unwrap_or, codes}
-use Rattle.std.specs.List.{range_with_len}
+use Rattle.std.specs.Prelude.{ℕ, ◌-◌, ◌*◌, ◌==◌, true, false, List, [], ◌∷◌, ◌++◌, length, replicate, Some, unwrap_or, codes}
 use Rattle.lufs_base.specs.Fields.{field_bytes, put_at}
 use Rattle.lufs_base.specs.declared.geometry.Geometry.{Geometry}
 use Rattle.volume_model.specs.declared.inode.Dinode.{Dinode}
@@ -18,10 +17,19 @@ made_of g b = unwrap_or (made_block g 1000 b) (replicate 4096 0)
 abbrev pub made : Blocks
 made = made_of smallest
 
--- Two groups of that size. The second has its group record in block 99, its inodes from 32 on in block 100, and its body
--- blocks from 101 to 162.
-abbrev pub two_groups : Geometry
-two_groups = record smallest { groups = 2 }
+-- the root, with its first chunk in block 37
+abbrev pub made_root : Dinode
+made_root = record {
+  mode = 0x41ed;
+  links = 2;
+  uid = 0;
+  gid = 0;
+  size = 512;
+  mtime = 1000;
+  direct = 37 ∷ replicate 11 0;
+  indirect = 0 ∷ 0 ∷ 0 ∷ [];
+  blocks = 1;
+}
 
 -- with these bytes in the place of those of a block (by `elim`, which computes only the block that is asked for)
 abbrev pub replaced : Blocks → (block : ℕ) → List ℕ → Blocks
@@ -88,39 +96,12 @@ directory_slots this parent slots = slot this 12 dot ∷ (slot parent 12 dot_dot
 abbrev pub with_root : Blocks → List Slot → Blocks
 with_root blocks slots = with_chunk blocks 37 0 slots
 
--- with an inode 3 that nothing names
-abbrev pub with_three : Dinode → Blocks
-with_three d = with_inode made 3 d
-
 -- with a file 3 of one block, that the root names
 abbrev pub with_file : Blocks
 with_file =
     let root = with_root made (directory_slots 2 2 (slot 3 488 (codes "a") ∷ [])) in
     let inodes = with_inode root 3 (file 1 4096 (38 ∷ []) 0 1) in
     with_counts (with_bits inodes 15 15) 28 60
-
--- with an empty directory 3, that the root names
-abbrev pub with_directory : Blocks
-with_directory =
-    let root = with_root made (directory_slots 2 2 (slot 3 488 (codes "d") ∷ [])) in
-    let chunk = with_chunk root 38 0 (directory_slots 3 2 (slot 0 488 [] ∷ [])) in
-    let inodes = with_inode (with_inode chunk 2 (directory 3 512 (37 ∷ []) 0 1)) 3 (directory 2 512 (38 ∷ []) 0 1) in
-    with_counts (with_bits inodes 15 15) 28 60
-
--- Directories 3 and 4, of which each names the other and has it above itself. The root names neither.
-abbrev pub with_a_circle : Blocks
-with_a_circle =
-    let first = with_chunk made 38 0 (directory_slots 3 4 (slot 4 488 (codes "d") ∷ [])) in
-    let second = with_chunk first 39 0 (directory_slots 4 3 (slot 3 488 (codes "d") ∷ [])) in
-    let inodes = with_inode (with_inode second 3 (directory 3 512 (38 ∷ []) 0 1)) 4 (directory 3 512 (39 ∷ []) 0 1) in
-    with_counts (with_bits inodes 31 31) 27 59
-
--- A directory 3 that has file 4 above itself. The root names both.
-abbrev pub with_a_file_above : Blocks
-with_a_file_above =
-    let root = with_root made (directory_slots 2 2 (slot 3 12 (codes "d") ∷ (slot 4 476 (codes "f") ∷ []))) in
-    let chunk = with_chunk root 38 0 (directory_slots 3 4 (slot 0 488 [] ∷ [])) in
-    with_inode (with_inode chunk 3 (directory 2 512 (38 ∷ []) 0 1)) 4 (file 2 0 [] 0 0)
 
 -- The root names directory 4, and file 3, which has two blocks, one of them by its pointer block 39, and holes between
 -- them. The directory has two chunks: it names the file too, and a link.
@@ -136,24 +117,6 @@ with_all =
     let four = with_inode three 4 (directory 2 1024 (41 ∷ []) 0 1) in
     let five = with_inode four 5 (link 1 2 (42 ∷ []) 0 1) in
     with_counts (with_bits five 63 255) 26 56
-
--- with so many chunks of one unused slot each from chunk k of a block on
-abbrev pub with_unused : Blocks → (block k count : ℕ) → Blocks
-with_unused blocks block k count = changed blocks block (512 * k) (chunk_bytes (replicate count (slot 0 512 [])))
-
--- with unused chunks in all of the count blocks from this one on
-abbrev pub all_unused : Blocks → (block count : ℕ) → Blocks
-all_unused blocks block zero = blocks
-all_unused blocks block (suc count) = all_unused (with_unused blocks block 0 8) (block + 1) count
-
--- The root has 97 chunks. The first twelve of their blocks are from block 37 on, and the last is block 50, by the pointer
--- block 49.
-abbrev pub with_large_root : Blocks
-with_large_root =
-    let chunks = with_unused (all_unused (all_unused made 38 11) 50 1) 37 1 7 in
-    let pointers = with_pointers chunks 49 (50 ∷ []) in
-    let root = with_inode pointers 2 (directory 2 49664 (range_with_len 37 12) 49 14) in
-    with_counts (changed root 35 160 (255 ∷ (255 ∷ []))) 29 48
 
 -- a new volume with the bits of inode 3 and of block 38 set, and counts that fit them
 abbrev pub with_held_bits : Blocks

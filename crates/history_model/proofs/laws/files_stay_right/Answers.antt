@@ -1,6 +1,0 @@
--- By what each edit puts.
-use Rattle.history_model.proofs.RightFileLaws.{files_right}
-use Rattle.history_model.proofs.laws.files_stay_right.Goals as goal
-
-pub returns : goal.returns
-returns c = files_right

@@ -1,6 +1,0 @@
--- Row by row.
-use Rattle.history_model.proofs.LinkRangeLaws.{links-counted}
-use Rattle.history_model.proofs.laws.links_counted.Goals as goal
-
-pub returns : goal.returns
-returns c = links-counted

@@ -1,0 +1,23 @@
+-- Each row is computed.
+use Rattle.std.proofs.Common.{refl}
+use Rattle.volume_model.specs.Sound.{free_blocks_of, free_inodes_of}
+use Rattle.volume_model.specs.Sound.{shape_of}
+use Rattle.std.specs.Fmt.{digits}
+use Rattle.history_model.specs.Places.{links_in}
+use Rattle.history_model.specs.Walk.{walk_of}
+use Rattle.history_model.specs.Ends.{ends_of}
+use Rattle.history_model.specs.Refusals.{decision_at}
+use Rattle.history_model.specs.Edits.{edited}
+use Rattle.history_model.specs.Replies.{reply_of, tree_after, wanted_of}
+use Rattle.history_model.specs.Numbers.{number_below, mode_of, bytes_of_hex}
+use Rattle.history_model.specs.Lines.{line_of, lines_of}
+use Rattle.history_model.specs.ReplyText.{text_of_reply, reply_text_of}
+use Rattle.worked_history.proofs.limits.inodes_used_up.Goals as goal
+
+pub returns-clause-thirty : goal.returns-clause-thirty
+unfolding free_blocks_of shape_of digits links_in free_inodes_of walk_of ends_of decision_at edited reply_of tree_after wanted_of number_below mode_of bytes_of_hex line_of lines_of text_of_reply reply_text_of
+returns-clause-thirty c = refl
+
+pub returns-clause-before_blocks : goal.returns-clause-before_blocks
+unfolding free_blocks_of shape_of digits links_in free_inodes_of walk_of ends_of decision_at edited reply_of tree_after wanted_of number_below mode_of bytes_of_hex line_of lines_of text_of_reply reply_text_of
+returns-clause-before_blocks c = refl

@@ -1,0 +1,35 @@
+-- Each row is computed.
+use Rattle.std.proofs.Common.{refl}
+use Rattle.volume_model.specs.Sound.{free_blocks_of, free_inodes_of}
+use Rattle.volume_model.specs.Sound.{shape_of}
+use Rattle.std.specs.Fmt.{digits}
+use Rattle.history_model.specs.Places.{links_in}
+use Rattle.history_model.specs.Walk.{walk_of}
+use Rattle.history_model.specs.Ends.{ends_of}
+use Rattle.history_model.specs.Refusals.{decision_at}
+use Rattle.history_model.specs.Edits.{edited}
+use Rattle.history_model.specs.Replies.{reply_of, tree_after, wanted_of}
+use Rattle.history_model.specs.Numbers.{number_below, mode_of, bytes_of_hex}
+use Rattle.history_model.specs.Lines.{line_of, lines_of}
+use Rattle.history_model.specs.ReplyText.{text_of_reply, reply_text_of}
+use Rattle.worked_history.proofs.limits.slots_of_names.Goals as goal
+
+pub returns-clause-chunk_filled : goal.returns-clause-chunk_filled
+unfolding free_blocks_of shape_of digits links_in free_inodes_of walk_of ends_of decision_at edited reply_of tree_after wanted_of number_below mode_of bytes_of_hex line_of lines_of text_of_reply reply_text_of
+returns-clause-chunk_filled c = refl
+
+pub returns-clause-renamed : goal.returns-clause-renamed
+unfolding free_blocks_of shape_of digits links_in free_inodes_of walk_of ends_of decision_at edited reply_of tree_after wanted_of number_below mode_of bytes_of_hex line_of lines_of text_of_reply reply_text_of
+returns-clause-renamed c = refl
+
+pub returns-clause-moved : goal.returns-clause-moved
+unfolding free_blocks_of shape_of digits links_in free_inodes_of walk_of ends_of decision_at edited reply_of tree_after wanted_of number_below mode_of bytes_of_hex line_of lines_of text_of_reply reply_text_of
+returns-clause-moved c = refl
+
+pub returns-clause-unused : goal.returns-clause-unused
+unfolding free_blocks_of shape_of digits links_in free_inodes_of walk_of ends_of decision_at edited reply_of tree_after wanted_of number_below mode_of bytes_of_hex line_of lines_of text_of_reply reply_text_of
+returns-clause-unused c = refl
+
+pub returns-clause-taken_over : goal.returns-clause-taken_over
+unfolding free_blocks_of shape_of digits links_in free_inodes_of walk_of ends_of decision_at edited reply_of tree_after wanted_of number_below mode_of bytes_of_hex line_of lines_of text_of_reply reply_text_of
+returns-clause-taken_over c = refl

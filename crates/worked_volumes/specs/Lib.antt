@@ -1,0 +1,4 @@
+pub mod Logs
+pub mod Chunks
+pub mod Records
+pub mod Volumes
