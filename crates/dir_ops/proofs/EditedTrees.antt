@@ -18,15 +18,16 @@ use Rattle.history_model.specs.Edits.{changed_in, on_chunks, on_node}
 use Rattle.history_model.specs.Places.{is_directory_node, is_directory_in}
 use Rattle.change_laws.specs.Plans.{HasInode}
 use Rattle.meta_store.specs.declared.change.Change.{Change}
-use Rattle.meta_draft.specs.Deltas.{chunk_delta}
+use Rattle.meta_store.specs.Deltas.{chunk_delta}
 use Rattle.meta_draft.specs.Drafted.{drafted_blocks, with_delta}
 use Rattle.draft_laws.specs.Drafts.{IsDraft, Draws, links_at}
-use Rattle.dir_ops.specs.Chunks.{slots_of_chunk, chunks_of}
-use Rattle.dir_ops.specs.Directories.{HasDirectory, IsFirstAt, serves, chunk_of_directory, PutsChunk, PutsSlot}
+use Rattle.dir_reads.specs.Chunks.{slots_of_chunk, chunks_of}
+use Rattle.dir_reads.specs.Directories.{HasDirectory, IsFirstAt, serves}
+use Rattle.dir_ops.specs.Slots.{chunk_of_directory, PutsChunk, PutsSlot}
 use Rattle.dir_ops.specs.Edits.{DrawsTree, slot_changed, with_slot_changed}
-use Rattle.dir_ops.specs.declared.directory.Directory.{Directory as Opened_directory}
-use Rattle.dir_ops.specs.declared.directory.Found.{Found}
-use Rattle.dir_ops.specs.declared.directory.Wanted.TheVariants.{Named}
+use Rattle.dir_reads.specs.declared.directory.Directory.{Directory as Opened_directory}
+use Rattle.dir_reads.specs.declared.directory.Found.{Found}
+use Rattle.dir_reads.specs.declared.directory.Wanted.TheVariants.{Named}
 use Rattle.dir_ops.proofs.ChangedSlots.{none_of, none_changed, one_changed}
 use Rattle.draft_laws.proofs.ChunkStep.{chunk_drawn}
 
@@ -70,13 +71,6 @@ directory_same i f tree directory stands same =
     on_node_some i (on_chunks f) tree (Directory directory) stands
     ∙ ap (λ (chunks : List (List Slot)). with_node tree i (Some (Directory (record directory { chunks = chunks })))) same
     ∙ ap (with_node tree i) (sym stands) ∙ with_its_own tree i
-
--- the numbers of each inode that is stored right
-pub stored_numbers : (g : Geometry) (r : Reading) (hands : List Hand) (i : ℕ) → IsStored g r hands → has_bad_numbers g r i ≡ false
-stored_numbers g r hands i stored = elim (cases_lt i (inodes_in r)) [
-  | inl inside ↦ stored.numbers i inside
-  | inr past ↦ ap (λ (o : Option InodeState). option_map_or (λ u. not (has_right_numbers g i u)) (option_and_then used_of o) false) (slice_get_past r.inodes i (omega (arith, past)))
-]
 
 -- the node of a directory that was opened
 abbrev pub node_opened : Blocks → Opened_directory → DirectoryNode

@@ -25,7 +25,7 @@ use Rattle.change_laws.specs.Plans.{HasInode, GrowsByChunk, HoldMore}
 use Rattle.change_laws.proofs.Counts.{times-cons}
 use Rattle.change_laws.proofs.ChunkSteps.{number_there}
 use Rattle.meta_store.specs.declared.change.Change.{Change}
-use Rattle.meta_draft.specs.Deltas.{inode_delta, chunk_delta, zero_delta, pointers_delta}
+use Rattle.meta_store.specs.Deltas.{inode_delta, chunk_delta, zero_delta, pointers_delta}
 use Rattle.meta_draft.specs.Drafted.{drafted_blocks, with_delta}
 use Rattle.draft_laws.specs.Drafts.{IsDraft, Draws, MayAttach}
 use Rattle.draft_laws.proofs.Continues.{held_free}
@@ -35,13 +35,14 @@ use Rattle.draft_laws.proofs.FreedInode.{hands_alike}
 use Rattle.draft_laws.proofs.GrowthDrawn.{chunk_added, block_added}
 use Rattle.draft_laws.proofs.PointerGrowth.{block_added_by_pointer}
 use Rattle.draft_laws.proofs.FirstPointerGrowth.{pointer_added}
-use Rattle.dir_ops.specs.Chunks.{slots_of_chunk, chunks_of}
-use Rattle.dir_ops.specs.Directories.{HasDirectory, IsFirstAt, serves, PutsName, chunk_of_directory}
+use Rattle.dir_reads.specs.Chunks.{slots_of_chunk, chunks_of}
+use Rattle.dir_reads.specs.Directories.{HasDirectory, IsFirstAt, serves}
+use Rattle.dir_ops.specs.Slots.{PutsName, chunk_of_directory}
 use Rattle.dir_ops.specs.Edits.{DrawsTree, MayEnter}
 use Rattle.dir_ops.specs.Growth.{with_inode, with_room, with_direct, with_pointer, with_chunk_added, with_block_added, with_pointer_added, with_block_by_pointer, Grows}
-use Rattle.dir_ops.specs.declared.directory.Directory.{Directory as Opened_directory}
-use Rattle.dir_ops.specs.declared.directory.Found.{Found}
-use Rattle.dir_ops.specs.declared.directory.Wanted.TheVariants.{Roomy}
+use Rattle.dir_reads.specs.declared.directory.Directory.{Directory as Opened_directory}
+use Rattle.dir_reads.specs.declared.directory.Found.{Found}
+use Rattle.dir_reads.specs.declared.directory.Wanted.TheVariants.{Roomy}
 use Rattle.dir_ops.proofs.ChangedSlots.{one_more, one_entered}
 use Rattle.dir_ops.proofs.EditedTrees.{has_inode, node_opened, count_opened, drawn_tree, on_node_some, chunk_edited}
 use Rattle.dir_ops.proofs.GrownRecords.{few_blocks, room_dinode, direct_dinode, pointer_dinode}

@@ -1,8 +1,3 @@
-pub mod StoreSteps
-pub mod ReadNumbers
-pub mod RightNumbers
-pub mod OpenedDirectories
-pub mod FirstChunks
 pub mod ChangedSlots
 pub mod EditedTrees
 pub mod ToldEdits
@@ -10,8 +5,3 @@ pub mod GrownRecords
 pub mod WantedBlocks
 pub mod EnteredTrees
 pub mod ToldEntries
-pub mod OpenedTrees
-pub mod ChunksTold
-pub mod FoundSlots
-pub mod EnteredRooms
-pub mod EnteredNames

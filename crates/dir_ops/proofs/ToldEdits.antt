@@ -1,5 +1,5 @@
 -- What is known of the tree of a draft after a slot of a directory was changed, where the content is told.
-use Rattle.std.proofs.Common.{◌≡◌, ◌<◌, ℕ, Bool, true, false, List, Option, Some, None, IfSome, sym, subst}
+use Rattle.std.proofs.Common.{◌≡◌, ◌<◌, ℕ, Bool, true, false, List, Option, Some, None, Result, Ok, IfSome, OnOk, sym, subst}
 use Rattle.std.specs.Option.{option_map}
 use Rattle.lufs_base.specs.declared.geometry.Geometry.{Geometry}
 use Rattle.volume_model.specs.declared.hand.Hand.{Hand}
@@ -7,15 +7,19 @@ use Rattle.volume_model.specs.Format.{Image, block, inodes_of}
 use Rattle.volume_model.specs.Sound.{Tree, reading_of}
 use Rattle.history_model.specs.Edits.{changed_in}
 use Rattle.meta_store.specs.declared.change.Change.{Change}
+use Rattle.meta_store.specs.declared.error.StoreError.{StoreError}
 use Rattle.meta_store.specs.Changes.{changed}
 use Rattle.meta_draft.specs.Drafted.{drafted_blocks}
 use Rattle.draft_laws.specs.Drafts.{IsDraft}
-use Rattle.dir_ops.specs.Directories.{IsDirectoryRead, IsFirst, serves, PutsSlot}
+use Rattle.dir_reads.specs.Directories.{IsDirectoryRead, IsFirst, serves}
+use Rattle.dir_ops.specs.Opened.{IsEditedAt}
+use Rattle.dir_ops.specs.Slots.{PutsSlot}
 use Rattle.dir_ops.specs.Edits.{DrawsTree, slot_changed, with_slot_changed}
-use Rattle.dir_ops.specs.declared.directory.Directory.{Directory}
-use Rattle.dir_ops.specs.declared.directory.Found.{Found}
-use Rattle.dir_ops.specs.declared.directory.Wanted.TheVariants.{Named}
-use Rattle.dir_ops.proofs.EditedTrees.{same_tree, no_directory_same, stored_numbers, none_edited, slot_edited}
+use Rattle.dir_reads.specs.declared.directory.Directory.{Directory}
+use Rattle.dir_reads.specs.declared.directory.Found.{Found}
+use Rattle.dir_reads.specs.declared.directory.Wanted.TheVariants.{Named}
+use Rattle.dir_reads.proofs.StoredNumbers.{stored_numbers}
+use Rattle.dir_ops.proofs.EditedTrees.{same_tree, no_directory_same, none_edited, slot_edited}
 
 -- of each draft of the content that is told
 abbrev pub EditsDrafts : Option Image → Geometry → (old new : Change) → (i : ℕ) → (edit : Tree → Tree) → Type 0
@@ -37,19 +41,26 @@ told_none (Some base) g old i name to read = λ taken hands draft.
     same_tree g base taken old hands i (with_slot_changed i name to) draft
     (no_directory_same i (λ chunks. changed_in (slot_changed to) chunks name) _ (read (stored_numbers g (reading_of g blocks) hands i draft.stored)))
 
+-- a directory that was opened
+pub told_opened : (content now : Option Image) (g h : Geometry) (old new : Change) (i : ℕ) (edit : ℕ → Tree → Tree) (directory : Directory) (result : Result Unit StoreError) → i < inodes_of g → now ≡ content
+    → h ≡ g → IsReadAs content g old i (Some directory) → IsEditedAt now h old new directory edit result
+    → IfSome content (λ base. (taken : ℕ → Bool) (hands : List Hand) → IsDraft g base taken old hands → OnOk result (DrawsTree g base taken old new i (edit i) hands))
+told_opened None now g h old new i edit directory result within same geometry read edited = tt
+told_opened (Some base) now g h old new i edit directory result within same geometry read edited = λ taken hands draft.
+    let here = subst (λ (o : Option Image). IsEditedAt o h old new directory edit result) same edited in
+    let there = subst (λ (k : Geometry). IsEditedAt (Some base) k old new directory edit result) geometry here in
+    there i taken hands draft within (read (stored_numbers g (reading_of g (drafted_blocks old base)) hands i draft.stored))
+
 -- no slot with the name
-pub told_unnamed : (content now : Option Image) (g : Geometry) (old : Change) (i : ℕ) (name : List ℕ) (to : Option ℕ) (directory : Directory) → i < inodes_of g → now ≡ content
-    → IsReadAs content g old i (Some directory) → IsFoundAs now old name directory None → EditsDrafts content g old old i (with_slot_changed i name to)
-told_unnamed None now g old i name to directory within same read none = tt
-told_unnamed (Some base) now g old i name to directory within same read none = λ taken hands draft.
-    let here = subst (λ (o : Option Image). IsFoundAs o old name directory None) same none in
-    none_edited g base taken old hands i directory draft within (read (stored_numbers g (reading_of g (drafted_blocks old base)) hands i draft.stored)) name to here
+pub told_unnamed : (content : Option Image) (g : Geometry) (old : Change) (name : List ℕ) (to : Option ℕ) (directory : Directory) → IsFoundAs content old name directory None
+    → IsEditedAt content g old old directory (λ i. with_slot_changed i name to) (Ok tt)
+told_unnamed None g old name to directory none = tt
+told_unnamed (Some base) g old name to directory none = λ i taken hands draft within has. none_edited g base taken old hands i directory draft within has name to none
 
 -- a slot with the name
-pub told_slot : (content now : Option Image) (g : Geometry) (old new : Change) (i : ℕ) (name : List ℕ) (to : Option ℕ) (directory : Directory) (found : Found) → i < inodes_of g → now ≡ content
-    → IsReadAs content g old i (Some directory) → IsFoundAs now old name directory (Some found) → found.place < directory.opened.count → serves Named name found.chunk ≡ true
-    → PutsSlot directory found name to old new → EditsDrafts content g old new i (with_slot_changed i name to)
-told_slot None now g old new i name to directory found within same read first below serving puts = tt
-told_slot (Some base) now g old new i name to directory found within same read first below serving puts = λ taken hands draft.
-    let here = subst (λ (o : Option Image). IsFoundAs o old name directory (Some found)) same first in
-    slot_edited g base taken old hands i directory draft within (read (stored_numbers g (reading_of g (drafted_blocks old base)) hands i draft.stored)) new found name to here below serving puts
+pub told_slot : (content : Option Image) (g : Geometry) (old new : Change) (name : List ℕ) (to : Option ℕ) (directory : Directory) (found : Found) → IsFoundAs content old name directory (Some found)
+    → found.place < directory.opened.count → serves Named name found.chunk ≡ true → PutsSlot directory found name to old new
+    → IsEditedAt content g old new directory (λ i. with_slot_changed i name to) (Ok tt)
+told_slot None g old new name to directory found first below serving puts = tt
+told_slot (Some base) g old new name to directory found first below serving puts = λ i taken hands draft within has.
+    slot_edited g base taken old hands i directory draft within has new found name to first below serving puts

@@ -5,10 +5,10 @@ use Rattle.volume_model.specs.declared.inode.Dinode.{Dinode}
 use Rattle.volume_model.specs.declared.directory.Slot.{Slot}
 use Rattle.volume_model.specs.Format.{dinode_bytes, chunk_bytes, numbers_bytes}
 use Rattle.meta_store.specs.declared.change.Change.{Change}
-use Rattle.meta_draft.specs.Deltas.{inode_delta, chunk_delta, zero_delta, pointers_delta}
+use Rattle.meta_store.specs.Deltas.{inode_delta, chunk_delta, zero_delta, pointers_delta}
 use Rattle.meta_draft.specs.Drafted.{with_delta}
-use Rattle.dir_ops.specs.Directories.{chunk_of_directory}
-use Rattle.dir_ops.specs.declared.directory.Directory.{Directory}
+use Rattle.dir_ops.specs.Slots.{chunk_of_directory}
+use Rattle.dir_reads.specs.declared.directory.Directory.{Directory}
 
 -- the record with room for one chunk more, and with so many blocks more
 abbrev pub with_room : (more : ℕ) → Dinode → Dinode

@@ -1,5 +1,6 @@
 //! Names of a directory that lead to another inode, or are removed.
-ghost use Rattle.std.specs.Prelude.{◌≡◌, ◌≢◌, ◌≤◌, ◌+◌, true, option_map, IfSome, OnOk, IsErrOf};
+ghost use Rattle.std.specs.Prelude.{◌≡◌, ◌≢◌, ◌<◌, ◌≤◌, ◌+◌, ℕ, true, slice_index, option_map, IfSome, OnOk, IsErrOf};
+ghost use Rattle.lufs_base.specs.Layout.{blocks_of};
 ghost use Rattle.volume_model.specs.Format.{IsUsed};
 ghost use Rattle.volume_model.specs.Log.{delta_bytes};
 ghost use Rattle.volume_model.specs.Sound.{dot_dot};
@@ -8,12 +9,15 @@ ghost use Rattle.history_model.specs.Edits.{TakeOut, Point, SetParent, edited};
 ghost use Rattle.meta_store.specs.Store.{IsUnchanged};
 ghost use Rattle.meta_store.specs.Changing.{IsKept};
 ghost use Rattle.meta_store.specs.declared.error.StoreError.TheVariants.{Disk};
-ghost use Rattle.dir_ops.specs.Directories.{serves, PutsSlot};
-ghost use Rattle.dir_ops.specs.declared.directory.Wanted.TheVariants.{Named};
+ghost use Rattle.dir_reads.specs.Directories.{serves};
+ghost use Rattle.dir_ops.specs.Slots.{PutsSlot};
+ghost use Rattle.dir_reads.specs.declared.directory.Wanted.TheVariants.{Named};
+ghost use Rattle.dir_ops.specs.Opened.{IsEditedAt};
 ghost use Rattle.dir_ops.specs.Edits.{IsEdited, PutsDeltas, slot_changed, with_slot_changed};
 
-use crate::directory::{Directory, Found, Wanted};
+use crate::chunk_put::put_chunk;
 use dir_blocks::Chunk;
+use dir_reads::{Directory, Found, Wanted};
 use lufs_base::{Ino, Mem, Name};
 use meta_draft::Draft;
 use meta_store::{MetaRead, StoreError};
@@ -48,8 +52,33 @@ fn change_in(
     let mut chunk = found.chunk;
     if let Some(place) = chunk.find(name) {
         change_at(&mut chunk, place, to);
-        directory.put(alloc, draft, found.place, &chunk)?;
+        put_chunk(alloc, draft, directory, found.place, &chunk)?;
     }
+    Ok(())
+}
+
+// Changes the first slot with the name in a directory that was opened.
+fn change_in_directory<S: MetaRead>(
+    alloc: Global,
+    draft: &mut Draft,
+    store: &mut S,
+    directory: &Directory,
+    name: &Name,
+    to: Option<Ino>,
+) -> Result<(), StoreError>
+    requires number { IfSome to (λ i. i.0 ≢ 0) }
+    requires inside { (k : ℕ) → slice_index directory.now.opened.numbers.items k < blocks_of (S.store store.old).geometry }
+    ensures drawn { IsEditedAt (S.store store.old).content (S.store store.old).geometry draft.old.change draft.new.change directory.now (λ i. with_slot_changed i name.now (option_map (λ i. i.0) to)) result }
+    ensures rest { OnOk result (PutsDeltas draft.old.change draft.new.change) }
+    ensures growth { delta_bytes draft.new.change.deltas ≤ delta_bytes draft.old.change.deltas + 528 }
+    ensures unchanged { IsUnchanged (S.store store.old) (S.store store.new) }
+    ensures kept { IsKept (S.changing store.old) (S.changing store.new) }
+    ensures failure { FailsJustAt (IsErrOf result Disk) (S.store store.old).disk (S.store store.new).disk }
+{
+    let Some(found) = directory.find(alloc, draft, store, Wanted::Named, name)? else {
+        return Ok(());
+    };
+    change_in(alloc, draft, directory, found, name, to)?;
     Ok(())
 }
 
@@ -70,14 +99,10 @@ fn change_slot<S: MetaRead>(
     ensures kept { IsKept (S.changing store.old) (S.changing store.new) }
     ensures failure { FailsJustAt (IsErrOf result Disk) (S.store store.old).disk (S.store store.new).disk }
 {
-    let Some(directory) = Directory::open(alloc, draft, store, dir)? else {
-        return Ok(());
-    };
-    let Some(found) = directory.find(alloc, draft, store, Wanted::Named, name)? else {
-        return Ok(());
-    };
-    change_in(alloc, draft, &directory, found, name, to)?;
-    Ok(())
+    match Directory::open(alloc, draft, store, dir)? {
+        Some(directory) => change_in_directory(alloc, draft, store, &directory, name, to),
+        None => Ok(()),
+    }
 }
 
 /// Lets the name in directory `dir` lead to inode `i`, from 1 on. A name that isn't there, or a `dir` that is no

@@ -3,15 +3,15 @@ ghost use Rattle.std.specs.Prelude.{◌≡◌, ◌≢◌, ◌<◌, ◌≤◌, �
 ghost use Rattle.lufs_base.specs.Layout.{IsGeometry};
 ghost use Rattle.volume_model.specs.Format.{inodes_of, dinode_bytes, chunk_bytes};
 ghost use Rattle.volume_model.specs.Log.{delta_bytes};
-ghost use Rattle.meta_draft.specs.Deltas.{inode_delta, chunk_delta, zero_delta, pointers_delta};
+ghost use Rattle.meta_store.specs.Deltas.{inode_delta, chunk_delta, zero_delta, pointers_delta};
 ghost use Rattle.meta_draft.specs.Drafted.{with_delta};
 ghost use Rattle.meta_store.specs.Changes.{numbers_in};
 ghost use Rattle.dir_ops.specs.Edits.{PutsDeltas};
 ghost use Rattle.dir_ops.specs.Growth.{with_block, with_number, with_room, with_direct, with_pointer, with_inode, with_chunk_added, AddsBlock, AddsPointer, AddsByPointer, Grows};
 
-use crate::directory::Directory;
-use crate::opened::{CHUNKS, MOST_CHUNKS};
+use crate::chunk_put::put_chunk;
 use dir_blocks::Chunk;
+use dir_reads::{CHUNKS, Directory, MOST_CHUNKS};
 use lufs_base::{BlockNo, Geometry, Ino, Mem};
 use meta_draft::Draft;
 use std::alloc::Global;
@@ -90,7 +90,7 @@ fn add_chunk(
 {
     let mut d = directory.dinode;
     d.size += 512;
-    directory.put(alloc, draft, directory.opened.count, chunk)?;
+    put_chunk(alloc, draft, directory, directory.opened.count, chunk)?;
     draft.put_inode(alloc, g, dir, Some(&d))
 }
 

@@ -1,20 +1,11 @@
-//! Directories, read with the change that a call is making: names looked up and listed, and where a new one has
-//! room (`docs/definitions/changes.md`, "Directories in a draft").
+//! Directories, changed by a call: names entered, led to another inode and removed (`docs/definitions/changes.md`,
+//! "Directories in a draft").
 #![tactic(auto)]
 
-mod directory;
+mod chunk_put;
 mod edits;
-mod entered;
+mod entry;
 mod growth;
-mod listing;
-mod numbers;
-mod opened;
-mod search;
-mod space;
-mod window;
 
 pub use edits::{remove, replace, set_parent};
-pub use entered::enter;
-pub use listing::entries;
-pub use search::{is_empty, lookup};
-pub use space::{Room, can_enter};
+pub use entry::enter;

@@ -8,7 +8,7 @@ use Rattle.volume_model.specs.declared.inode.Dinode.{Dinode}
 use Rattle.volume_model.specs.Format.{Image, dinode_bytes}
 use Rattle.volume_model.specs.Sound.{Single, used_inode, size_in_blocks, Attributes, FileNode, File, attributes_of}
 use Rattle.meta_store.specs.declared.change.Change.{Change}
-use Rattle.meta_draft.specs.Deltas.{zero_delta, inode_delta}
+use Rattle.meta_store.specs.Deltas.{zero_delta, inode_delta}
 use Rattle.meta_draft.specs.Drafted.{drafted_blocks, with_delta}
 use Rattle.draft_laws.specs.Drafts.{IsDraft, Draws, links_at}
 use Rattle.draft_laws.proofs.FileAttached.{file_pointer_attached}

@@ -10,11 +10,11 @@ use Rattle.lufs_base.specs.Layout.{IsGeometry, group_start}
 use Rattle.lufs_base.specs.declared.geometry.Geometry.{Geometry}
 use Rattle.lufs_base.specs.declared.numbers.Ino.{Ino}
 use Rattle.volume_model.specs.declared.hand.Hand.{Hand}
-use Rattle.volume_model.specs.Format.{GroupRecord, bit_at, is_body}
+use Rattle.volume_model.specs.Format.{GroupRecord, bit_at, is_body, HasBit}
 use Rattle.volume_model.specs.Sound.{held_inodes, is_among}
 use Rattle.volume_laws.proofs.BodyBlocks.{none_before, body_at}
 use Rattle.change_laws.specs.Hands.{one_block, one_inode}
-use Rattle.change_laws.specs.Marks.{group_of_inode, group_of_block, place_of_block, HasHandPut, HasBit}
+use Rattle.change_laws.specs.Marks.{group_of_inode, group_of_block, place_of_block, HasHandPut}
 use Rattle.meta_store.specs.declared.change.Freed.{Freed}
 use Rattle.meta_store.proofs.FreeBlocks.{in_a_group}
 use Rattle.file_map.specs.Freed.{hand_of}

@@ -3,18 +3,17 @@ use Rattle.std.proofs.Common.{◌≡◌, ◌<◌, ◌≤◌, ℕ, ◌+◌, ◌*�
 use Rattle.lufs_base.specs.Fields.{AreBytes}
 use Rattle.lufs_base.specs.Layout.{IsGeometry}
 use Rattle.lufs_base.specs.declared.geometry.Geometry.{Geometry}
-use Rattle.volume_model.specs.Format.{IsGroup, bit_at, clear_bits}
+use Rattle.volume_model.specs.Format.{IsGroup, bit_at, clear_bits, HasBit}
 use Rattle.volume_model.specs.Sound.{has_right_counts}
 use Rattle.change_laws.specs.Marks.{HasBlockPut, HasInodePut}
 use Rattle.change_laws.proofs.OneBit.{block_group, inode_group, counts_if}
 use Rattle.cyl_groups.specs.declared.group.Group.{Group}
-use Rattle.cyl_groups.specs.Bits.{HasBitPut}
 use Rattle.cyl_groups.specs.Group.{record_of, IsCounted, HasSizesOf, OnlyBlocks, OnlyInodes}
 use Rattle.cyl_groups.proofs.Counts.{clear_bits-le}
 use Rattle.file_map.specs.Freed.{IsCountedGroup}
 
 module _ (g : Geometry) (old new : Group) (place : ℕ) (ok : IsGeometry g) (before : IsCountedGroup g old) (counted : IsCounted new) where
-  pub block_left : HasBitPut place false old.block_bits new.block_bits → OnlyBlocks old new → g.ipg / 32 < place → place < g.bpg → length new.block_bits ≡ 256
+  pub block_left : HasBit place false old.block_bits new.block_bits → OnlyBlocks old new → g.ipg / 32 < place → place < g.bpg → length new.block_bits ≡ 256
       → AreBytes new.block_bits → IsCountedGroup g new
   block_left bit others low below size bytes =
       let put : HasBlockPut place false (record_of old) (record_of new) = record {
@@ -32,7 +31,7 @@ module _ (g : Geometry) (old new : Group) (place : ℕ) (ok : IsGeometry g) (bef
         counted = counted;
       }
 
-  pub inode_left : HasBitPut place false old.inode_bits new.inode_bits → OnlyInodes old new → 2 ≤ old.number * g.ipg + place → place < g.ipg → length new.inode_bits ≡ 128
+  pub inode_left : HasBit place false old.inode_bits new.inode_bits → OnlyInodes old new → 2 ≤ old.number * g.ipg + place → place < g.ipg → length new.inode_bits ≡ 128
       → AreBytes new.inode_bits → IsCountedGroup g new
   inode_left bit others low below size bytes =
       let put : HasInodePut place false (record_of old) (record_of new) = record {

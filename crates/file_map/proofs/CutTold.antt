@@ -26,7 +26,7 @@ use Rattle.meta_store.specs.Changes.{changed}
 use Rattle.meta_draft.specs.Drafted.{drafted_blocks}
 use Rattle.draft_laws.specs.Drafts.{IsDraft, Draws, links_at}
 use Rattle.draft_laws.specs.Freeing.{KeepsTree}
-use Rattle.inode_numbers.proofs.RightNumbers.{pointer_inside}
+use Rattle.block_numbers.proofs.RightNumbers.{pointer_inside}
 use Rattle.file_map.specs.Attached.{with_record}
 use Rattle.file_map.specs.Freed.{hand_of, WasClaimed}
 use Rattle.file_map.specs.Cut.{with_size, sized, lost, PutsCut}

@@ -19,12 +19,12 @@ use Rattle.meta_store.specs.declared.change.Change.{Change}
 use Rattle.meta_store.specs.declared.change.Freed.{Freed}
 use Rattle.meta_store.specs.declared.error.StoreError.{StoreError}
 use Rattle.meta_store.specs.Changes.{changed}
-use Rattle.meta_draft.specs.Deltas.{inode_delta}
+use Rattle.meta_store.specs.Deltas.{inode_delta}
 use Rattle.meta_draft.specs.Drafted.{drafted_blocks, with_delta}
 use Rattle.draft_laws.specs.Drafts.{IsDraft, Draws, links_at}
 use Rattle.draft_laws.specs.Freeing.{KeepsTree}
 use Rattle.draft_laws.proofs.FreedInode.{freed_drawn, all_claimed}
-use Rattle.inode_numbers.proofs.RightNumbers.{pointer_inside}
+use Rattle.block_numbers.proofs.RightNumbers.{pointer_inside}
 use Rattle.file_map.specs.Freed.{hand_of, WasClaimed}
 use Rattle.file_map.specs.Dropped.{IsAsItWas, freed_of}
 use Rattle.file_map.proofs.FoundInodes.{read_is, unused_past}

@@ -10,7 +10,7 @@ use Rattle.volume_model.specs.declared.inode.Dinode.{Dinode}
 use Rattle.volume_model.specs.Format.{Blocks, Image, block, inodes_of}
 use Rattle.volume_model.specs.Sound.{UsedInode, InodeState, used_of, state_of, used_inode, reading_of, used_at, inode_at, numbers_of, has_right_numbers, has_bad_numbers}
 use Rattle.volume_laws.proofs.ClaimFacts.{length-inodes, used_in_volume}
-use Rattle.inode_numbers.proofs.RightNumbers.{numbers_inside, pointer_inside}
+use Rattle.block_numbers.proofs.RightNumbers.{numbers_inside, pointer_inside}
 use Rattle.file_map.specs.Mapped.{numbered, numbered_within, block_mapped}
 
 of_state : (blocks : Blocks) (o : Option (Option Dinode)) → option_map (used_inode blocks) (option_flatten o) ≡ used_of (state_of blocks o)

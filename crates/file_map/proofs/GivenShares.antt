@@ -20,7 +20,7 @@ use Rattle.meta_store.specs.declared.change.Change.{Change}
 use Rattle.meta_store.specs.declared.change.Freed.{Freed}
 use Rattle.meta_store.specs.declared.error.StoreError.{StoreError}
 use Rattle.meta_store.specs.Changes.{changed}
-use Rattle.meta_draft.specs.Deltas.{group_delta}
+use Rattle.meta_store.specs.Deltas.{group_delta}
 use Rattle.meta_draft.specs.Drafted.{drafted_blocks, with_delta}
 use Rattle.draft_laws.specs.Drafts.{IsDraft}
 use Rattle.draft_laws.specs.Freeing.{with_all_freed, GivesUp, KeepsTree}

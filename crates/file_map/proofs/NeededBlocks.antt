@@ -13,9 +13,9 @@ use Rattle.volume_laws.proofs.FieldFacts.{fields_of_numbers}
 use Rattle.history_model.specs.Places.{file_in}
 use Rattle.history_model.specs.FileBytes.{direct_size, missing_indexes, misses_pointers}
 use Rattle.meta_store.specs.declared.error.StoreError.{StoreError}
-use Rattle.inode_numbers.proofs.RightNumbers.{pointer_inside}
+use Rattle.block_numbers.proofs.RightNumbers.{pointer_inside}
 use Rattle.file_map.specs.Needed.{IsNeeded, file_of_inode}
-use Rattle.file_map.specs.declared.needed.Needed.{Needed}
+use Rattle.file_map.specs.declared.block_needs.Needed.{Needed}
 use Rattle.file_map.proofs.FoundInodes.{numbers_right}
 use Rattle.file_map.proofs.FilesInTree.{by_file}
 use Rattle.file_map.proofs.MissingBlocks.{missing_by_numbers, same_on}

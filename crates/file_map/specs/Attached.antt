@@ -9,7 +9,7 @@ use Rattle.change_laws.specs.Plans.{HoldMore}
 use Rattle.history_model.specs.FileBytes.{block_at}
 use Rattle.meta_store.specs.declared.change.Change.{Change}
 use Rattle.meta_store.specs.Store.{StoreTold}
-use Rattle.meta_draft.specs.Deltas.{inode_delta, pointers_delta, zero_delta}
+use Rattle.meta_store.specs.Deltas.{inode_delta, pointers_delta, zero_delta}
 use Rattle.meta_draft.specs.Drafted.{drafted_blocks, with_delta}
 use Rattle.draft_laws.specs.Drafts.{IsDraft, Draws, links_at, IsNewBlock, MayAttach}
 

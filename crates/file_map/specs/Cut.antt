@@ -10,7 +10,7 @@ use Rattle.history_model.specs.FileBytes.{direct_size, at_length}
 use Rattle.meta_store.specs.declared.change.Change.{Change}
 use Rattle.meta_store.specs.declared.change.Freed.{Freed}
 use Rattle.meta_store.specs.Store.{StoreTold}
-use Rattle.meta_draft.specs.Deltas.{pointers_delta}
+use Rattle.meta_store.specs.Deltas.{pointers_delta}
 use Rattle.meta_draft.specs.Drafted.{drafted_blocks, with_delta}
 use Rattle.draft_laws.specs.Drafts.{IsDraft, Draws, links_at}
 use Rattle.file_map.specs.Attached.{with_record}

@@ -3,7 +3,7 @@ use Rattle.std.specs.Prelude.{◌≡◌, ℕ, if◌then◌else◌}
 use Rattle.volume_model.specs.Format.{Blocks}
 use Rattle.volume_model.specs.Sound.{UsedInode, FileNode, attributes_of, file_blocks, pointer_names}
 use Rattle.history_model.specs.FileBytes.{missing_indexes, misses_pointers}
-use Rattle.file_map.specs.declared.needed.Needed.{Needed}
+use Rattle.file_map.specs.declared.block_needs.Needed.{Needed}
 
 -- the file that an inode in use is
 abbrev pub file_of_inode : Blocks → UsedInode → FileNode

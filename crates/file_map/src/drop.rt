@@ -1,7 +1,7 @@
 //! An inode that no name leads to any more is freed, with all its blocks.
 ghost use Rattle.std.specs.Prelude.{◌≡◌, ◌<◌, ◌≤◌, ◌+◌, ◌*◌, ◌++◌, nat_le, nat_lt, ◌&&◌, slice_index, IfSome, IfOk, OnOk, IsErrOf};
 ghost use Rattle.lufs_base.specs.Layout.{IsGeometry, blocks_of};
-ghost use Rattle.volume_model.specs.Format.{block, is_file, inodes_of};
+ghost use Rattle.volume_model.specs.Format.{block, inodes_of};
 ghost use Rattle.volume_model.specs.Log.{delta_bytes};
 ghost use Rattle.volume_model.specs.Sound.{numbers_of};
 ghost use Rattle.sector_disk.specs.Disk.{FailsJustAt};
@@ -12,9 +12,9 @@ ghost use Rattle.meta_draft.specs.Drafted.{drafted};
 ghost use Rattle.file_map.specs.Freed.{metadata_among};
 ghost use Rattle.file_map.specs.Dropped.{IsDropped, most_indexes, freed_block, freed_of};
 
-use crate::freed::free_all;
-use crate::mapped::number_at;
-use inode_numbers::read_numbers;
+use crate::frees::free_all;
+use crate::mapping::number_at;
+use block_numbers::read_numbers;
 use lufs_base::{BlockNo, Geometry, Ino, Mem};
 use meta_draft::Draft;
 use meta_store::{Freed, MetaRead, StoreError};
@@ -30,17 +30,11 @@ const MOST_OF_FILE: u32 = 1036;
 /// The same of a directory, which may have more than a link.
 const MOST_OF_DIRECTORY: u32 = 256;
 
-fn is_file(mode: u16) -> bool
-    ensures { result ≡ is_file mode }
-{
-    matches!(mode, 0o100000..=0o100777)
-}
-
 // How many numbers of the inode may name blocks.
 fn most_indexes(d: &Dinode) -> u32
     ensures { result ≡ most_indexes d.now }
 {
-    if is_file(d.mode) {
+    if d.is_file() {
         MOST_OF_FILE
     } else {
         MOST_OF_DIRECTORY
@@ -63,7 +57,7 @@ fn push_block(list: &mut Vec<Freed>, number: u32, meta: bool) -> Result<(), Mem>
 fn blocks_by_numbers(alloc: Global, d: &Dinode, numbers: &[u32]) -> Result<Vec<Freed>, Mem>
     ensures { IfOk result (λ list. list.items ≡ freed_of d.now numbers.now) }
 {
-    let meta = !is_file(d.mode);
+    let meta = !d.is_file();
     let mut list = Vec::new(alloc);
     push_block(&mut list, d.indirect[0], true)?;
     for k in 0..most_indexes(d) {

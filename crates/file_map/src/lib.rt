@@ -2,22 +2,22 @@
 //! (`docs/definitions/changes.md`, "Files in a draft").
 #![tactic(auto)]
 
-mod attached;
-mod cleared;
+mod attachment;
+mod block_needs;
 mod drop;
-mod found;
-mod freed;
+mod frees;
+mod group_bits;
 mod indexes;
+mod inode_lookup;
 mod laws;
-mod mapped;
-mod needed;
+mod mapping;
 mod shares;
 mod sizes;
 
-pub use attached::attach;
+pub use attachment::attach;
+pub use block_needs::{Needed, blocks_needed};
 pub use drop::drop_inode;
 pub use indexes::IndexList;
 pub use laws::mapped_bytes;
-pub use mapped::map;
-pub use needed::{Needed, blocks_needed};
+pub use mapping::map;
 pub use sizes::cut;

@@ -1,23 +1,13 @@
 //! Which of the blocks that are given up lie in a group.
 ghost use Rattle.std.specs.Prelude.{◌≡◌, ◌<◌, ◌++◌, ◌∷◌, [], if◌then◌else◌, OnOk, IfOk};
 ghost use Rattle.std.specs.List.{filter};
-ghost use Rattle.lufs_base.specs.Layout.{IsGeometry, blocks_of};
-ghost use Rattle.volume_model.specs.Format.{is_body};
+ghost use Rattle.lufs_base.specs.Layout.{IsGeometry};
 ghost use Rattle.change_laws.specs.Marks.{group_of_block};
 ghost use Rattle.file_map.specs.Freed.{is_block_of, inode_in};
 
-use lufs_base::{BlockNo, Geometry, Ino, Mem, Region};
+use lufs_base::{BlockNo, Geometry, Ino, Mem};
 use meta_store::Freed;
 use std::alloc::Global;
-
-// Whether a block of the volume is a body block.
-fn is_body(g: &Geometry, b: BlockNo) -> bool
-    requires geometry { IsGeometry g.now }
-    requires inside { b.0 < blocks_of g.now }
-    ensures { result ≡ is_body g.now b.0 }
-{
-    matches!(g.region(b), Region::Body(_))
-}
 
 // The group that a block lies in, which is one of a group.
 fn group_of_block(g: &Geometry, b: BlockNo) -> u32
@@ -33,7 +23,7 @@ fn is_block_of(g: &Geometry, n: u32, freed: Freed) -> bool
     ensures { result ≡ is_block_of g.now n freed }
 {
     let b = freed.block;
-    b.0 < g.total() && is_body(g, b) && group_of_block(g, b) == n
+    g.is_body(b) && group_of_block(g, b) == n
 }
 
 // Adds the block to the list, if it is one of group `n`.

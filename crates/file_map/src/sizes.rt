@@ -12,10 +12,10 @@ ghost use Rattle.meta_store.specs.declared.error.StoreError.TheVariants.{Disk};
 ghost use Rattle.file_map.specs.Attached.{with_record};
 ghost use Rattle.file_map.specs.Cut.{sized, sized_to_direct, lost_block, lost, with_numbers_cleared, PutsCut, IsShortened, IsCut};
 
-use crate::found::used_inode;
-use crate::freed::free_all;
-use crate::mapped::number_at;
-use inode_numbers::read_numbers;
+use crate::frees::free_all;
+use crate::inode_lookup::used_inode;
+use crate::mapping::number_at;
+use block_numbers::read_numbers;
 use lufs_base::{BLOCK, BlockNo, Geometry, Ino, Mem};
 use meta_draft::Draft;
 use meta_store::{Freed, MetaRead, StoreError};

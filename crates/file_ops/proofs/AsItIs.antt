@@ -8,7 +8,7 @@ use Rattle.volume_laws.proofs.SoundParts.{in_parts}
 use Rattle.meta_store.specs.NoChange.{no_change}
 use Rattle.meta_store.specs.Changes.{changed}
 use Rattle.meta_store.proofs.ImageLaid.{nothing_over}
-use Rattle.dir_ops.proofs.EditedTrees.{stored_numbers}
+use Rattle.dir_reads.proofs.StoredNumbers.{stored_numbers}
 use Rattle.inode_reads.proofs.ByTree.{ByTree}
 
 -- what is answered of an inode whose numbers are right, by the tree

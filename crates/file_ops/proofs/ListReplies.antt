@@ -11,7 +11,7 @@ use Rattle.history_model.specs.Walk.{WalkEnd, first_of}
 use Rattle.history_model.specs.Names.{names_told, names_after}
 use Rattle.history_model.specs.Refusals.{Decision, Proceed, list_refusals, decision_at}
 use Rattle.history_model.specs.Replies.{decided_reply, reply_on, list_reply}
-use Rattle.dir_ops.specs.Names.{first_names}
+use Rattle.dir_reads.specs.Names.{first_names}
 use Rattle.file_ops.specs.Replies.{IsReplyTo, decision_by}
 
 module _ (g : Geometry) (cred : Cred) (path : List ℕ) (after : Option (List ℕ)) (p : WalkEnd) (tree : Tree) where

@@ -14,7 +14,7 @@ ghost use Rattle.inode_reads.specs.InodeOf.{IsInodeOf};
 ghost use Rattle.path_walk.specs.Answers.{end_of};
 ghost use Rattle.file_ops.specs.Replies.{IsReplyTo, decision_by};
 
-use dir_ops::entries;
+use dir_reads::entries;
 use inode_reads::{is_directory, may, read_inode};
 use lufs_base::{Ino, Name};
 use meta_draft::Draft;

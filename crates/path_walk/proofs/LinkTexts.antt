@@ -12,7 +12,7 @@ use Rattle.volume_model.specs.Format.{Blocks, Image, block, is_file, is_director
 use Rattle.volume_model.specs.Sound.{UsedInode, used_inode, reading_of, used_at, numbers_of, named_pointers, pointers_at, block_numbered, has_right_numbers, has_bad_numbers, Node, Tree, node_of, StandsFor}
 use Rattle.volume_laws.proofs.NodeFacts.{node_of_file, node_of_directory, node_of_other, link_is_other}
 use Rattle.volume_laws.proofs.NodeFields.{mode_in_use}
-use Rattle.dir_ops.proofs.RightNumbers.{numbers_inside}
+use Rattle.block_numbers.proofs.RightNumbers.{numbers_inside}
 use Rattle.path_walk.specs.Steps.{text_of_node, text_at}
 use Rattle.path_walk.proofs.TreeFacts.{OfTree, right_numbers}
 use Rattle.path_walk.proofs.FoundNodes.{node_read, node_of_read}

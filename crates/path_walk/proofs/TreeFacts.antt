@@ -10,7 +10,7 @@ use Rattle.meta_store.specs.declared.change.Change.{Change}
 use Rattle.meta_store.specs.Store.{StoreTold, IsUnchanged}
 use Rattle.meta_store.specs.Changes.{changed}
 use Rattle.meta_draft.specs.Drafted.{drafted}
-use Rattle.dir_ops.proofs.EditedTrees.{stored_numbers}
+use Rattle.dir_reads.proofs.StoredNumbers.{stored_numbers}
 use Rattle.path_walk.specs.Answers.{HoldsOfTree}
 
 -- the same of a content and its geometry

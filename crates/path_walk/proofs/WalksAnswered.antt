@@ -1,5 +1,5 @@
 -- A walk with its links is answered as the model says.
-use Rattle.std.proofs.Common.{◌≡◌, ℕ, zero, suc, Bool, List, [], ◌++◌, Result, Ok, Err, Option, Some, None, IfSome, sym, subst, ◌∙◌}
+use Rattle.std.proofs.Common.{◌≡◌, ℕ, zero, suc, Bool, List, [], ◌++◌, Result, Ok, Err, Option, Some, None, IfSome, sym, ap, subst, ◌∙◌}
 use Rattle.std.specs.Option.{option_map}
 use Rattle.std.specs.Result.{IsErr, IsErrAnd}
 use Rattle.std.proofs.lemmas.Bool.{false≢true}
@@ -15,11 +15,11 @@ use Rattle.meta_store.specs.declared.change.Change.{Change}
 use Rattle.meta_store.specs.NoChange.{no_change}
 use Rattle.meta_store.specs.Store.{StoreTold}
 use Rattle.meta_store.specs.Changes.{changed}
+use Rattle.meta_store.proofs.ImageLaid.{nothing_over}
 use Rattle.meta_draft.specs.Drafted.{drafted}
-use Rattle.draft_laws.proofs.Ends.{nothing_drafted}
 use Rattle.history_model.specs.Walk.{WalkEnd, parts_of, start_of, most_followed, root, walk_of}
 use Rattle.history_model.specs.Walks.{Walks}
-use Rattle.history_model.proofs.WalksLaws.{walk_is}
+use Rattle.history_rules.proofs.WalksLaws.{walk_is}
 use Rattle.path_walk.specs.declared.error.WalkError.{WalkError}
 use Rattle.path_walk.specs.declared.error.WalkError.TheVariants.{Refused, Disk, Mem as no_memory}
 use Rattle.path_walk.specs.declared.walked.Walked.{Walked}
@@ -65,7 +65,7 @@ no_change_told : (H : Tree → Type 0) (content : Option Image) (g : Geometry)
     → IfSome (option_map (changed no_change) content) (λ image. (tree : Tree) (hands : List Hand) → StandsFor g (block image) tree hands → H tree)
     → IfSome content (λ image. (tree : Tree) (hands : List Hand) → StandsFor g (block image) tree hands → H tree)
 no_change_told H None g holds = tt
-no_change_told H (Some image) g holds = λ tree hands stands. holds tree hands (subst (λ (blocks : Blocks). StandsFor g blocks tree hands) (sym (nothing_drafted image)) stands)
+no_change_told H (Some image) g holds = λ tree hands stands. holds tree hands (subst (λ (blocks : Blocks). StandsFor g blocks tree hands) (sym (ap (λ (under : Image). block under) (nothing_over image))) stands)
 
 -- what holds with no change
 pub with_no_change : (H : Tree → Type 0) (change : Change) (told : StoreTold) → change ≡ no_change → HoldsOfTree (drafted change told) H → HoldsOfTree told H

@@ -1,4 +1,5 @@
 pub mod Answers
+pub mod Parts
 pub mod Records
 pub mod Steps
 pub mod Stops

@@ -1,25 +1,16 @@
 //! An inode that is asked for, if the volume has it.
-ghost use Rattle.std.specs.Prelude.{◌≡◌, nat_lt, option_map, IfSome, IfOk};
-ghost use Rattle.lufs_base.specs.Layout.{IsGeometry};
-ghost use Rattle.volume_model.specs.Format.{block, inodes_of, IsDinode};
+ghost use Rattle.std.specs.Prelude.{◌≡◌, option_map, IfSome, IfOk};
+ghost use Rattle.volume_model.specs.Format.{block, IsDinode};
 ghost use Rattle.volume_model.specs.Sound.{reading_of, used_at, used_inode};
 ghost use Rattle.sector_disk.specs.Disk.{CountsFailure};
 ghost use Rattle.meta_store.specs.Store.{IsUnchanged};
 ghost use Rattle.meta_store.specs.Changing.{IsKept};
 ghost use Rattle.meta_draft.specs.Drafted.{drafted};
 
-use lufs_base::{DiskFault, Geometry, Ino};
+use lufs_base::{DiskFault, Ino};
 use meta_draft::Draft;
 use meta_store::MetaRead;
 use volume_model::Dinode;
-
-// Whether the volume has inode `i`.
-fn is_inode(g: &Geometry, i: Ino) -> bool
-    requires { IsGeometry g.now }
-    ensures { result ≡ nat_lt i.0 (inodes_of g.now) }
-{
-    i.0 < g.groups * g.ipg
-}
 
 /// Inode `i`, if it is in use.
 pub(crate) fn used_inode<S: MetaRead>(
@@ -34,7 +25,7 @@ pub(crate) fn used_inode<S: MetaRead>(
     ensures kept { IsKept (S.changing store.old) (S.changing store.new) }
     ensures failure { CountsFailure result (S.store store.old).disk (S.store store.new).disk }
 {
-    if !is_inode(store.geometry(), i) {
+    if !store.geometry().is_inode(i) {
         return Ok(None);
     }
     let found = draft.inode(store, i)?;

@@ -4,6 +4,7 @@
 mod error;
 mod inodes;
 mod links;
+mod part_lookup;
 mod parts;
 mod refusals;
 mod steps;

@@ -1,7 +1,7 @@
 //! The texts of symbolic links.
 ghost use Rattle.std.specs.Prelude.{◌≡◌, ◌<◌, take, slice_index, option_map, IfSome, IfOk, IsErrOf};
 ghost use Rattle.lufs_base.specs.Layout.{blocks_of};
-ghost use Rattle.volume_model.specs.Format.{block, is_link};
+ghost use Rattle.volume_model.specs.Format.{block};
 ghost use Rattle.volume_model.specs.Sound.{block_numbered};
 ghost use Rattle.sector_disk.specs.Disk.{FailsJustAt};
 ghost use Rattle.meta_store.specs.Store.{IsUnchanged};
@@ -17,12 +17,6 @@ use meta_draft::Draft;
 use meta_store::{MetaRead, StoreError};
 use std::alloc::Global;
 use volume_model::Dinode;
-
-fn is_link(mode: u16) -> bool
-    ensures { result ≡ is_link mode }
-{
-    matches!(mode, 0o120000..=0o120777)
-}
 
 // The text of the link of this record, which its one block begins with. Nothing where that is no block of the volume.
 fn text_of<S: MetaRead>(
@@ -63,7 +57,7 @@ pub(crate) fn link_text<S: MetaRead>(
     let Some(d) = used_inode(draft, store, i)? else {
         return Ok(None);
     };
-    if !is_link(d.mode) {
+    if !d.is_link() {
         return Ok(None);
     }
     let text = text_of(alloc, draft, store, &d)?;

@@ -8,7 +8,7 @@ use std::alloc::{AllocError, Global};
 use std::marker::Model;
 
 /// The parts that are left of a path, which contracts see as a list.
-#[derive(Debug, Drop)]
+#[derive(Drop)]
 pub(crate) struct Parts {
     /// The next one is the last of these.
     parts: Vec<Name>,

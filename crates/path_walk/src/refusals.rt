@@ -1,6 +1,5 @@
 //! Why a part of a path can't be looked up.
 ghost use Rattle.std.specs.Prelude.{◌≡◌, IfOk};
-ghost use Rattle.volume_model.specs.Format.{is_directory};
 ghost use Rattle.sector_disk.specs.Disk.{CountsFailure};
 ghost use Rattle.meta_store.specs.Store.{IsUnchanged};
 ghost use Rattle.meta_store.specs.Changing.{IsKept};
@@ -22,12 +21,6 @@ const SEARCH: u16 = 1;
 /// The most bytes of a name.
 const LONGEST: usize = 255;
 
-fn is_directory(mode: u16) -> bool
-    ensures { result ≡ is_directory mode }
-{
-    matches!(mode, 0o040000..=0o040777)
-}
-
 // Whether the caller may look names up in a directory with this record.
 fn may_search(cred: &Cred, d: &Dinode) -> bool
     ensures { result ≡ may_search cred.now d.now }
@@ -48,7 +41,7 @@ fn refused_by_record(cred: &Cred, found: Option<Dinode>, part: &Name) -> Option<
     let Some(d) = found else {
         return Some(Refusal::Notdir);
     };
-    if !is_directory(d.mode) {
+    if !d.is_directory() {
         Some(Refusal::Notdir)
     } else if !may_search(cred, &d) {
         Some(Refusal::Denied)

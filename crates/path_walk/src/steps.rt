@@ -16,7 +16,7 @@ use meta_store::{MetaRead, StoreError};
 use std::alloc::Global;
 
 /// How a walk goes on after a part of its path.
-#[derive(Debug, Drop)]
+#[derive(Drop)]
 pub(crate) enum Next {
     /// It ends there.
     End,

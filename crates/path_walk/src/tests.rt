@@ -3,7 +3,7 @@ ghost use Rattle.std.specs.Prelude.{◌≡◌, length, IfOk};
 
 use crate::{WalkError, Walked, walk};
 use lufs_base::{Geometry, Ino, Mem};
-use meta_store::{LaidDeltas, PlainStore, ReplayedDisk};
+use meta_store::{LaidDeltas, PlainStore, ReplayedDisk, StoreError};
 use sector_disk::{Disk, Fail, MemDisk};
 use std::alloc::Global;
 use tree_types::{Cred, PathText, Refusal};
@@ -60,6 +60,38 @@ type End<'a> = (u32, &'a [u8], Option<u32>);
 /// A walk of this user: the path, whether a link at its end is followed, and the answer.
 type Case<'a> = (u32, &'a [u8], bool, Result<End<'a>, Refusal>);
 
+const WALKED: &[Case] = &[
+    (0, b"/", true, Ok((2, b".", Some(2)))),
+    (0, b"//d//.", true, Ok((3, b".", Some(3)))),
+    (0, b"d/..", true, Ok((3, b"..", Some(2)))),
+    (0, b"d/x", true, Ok((3, b"x", None))),
+    (0, b"x/y", true, Err(Refusal::Noent)),
+    (0, b"f/y", true, Err(Refusal::Notdir)),
+    (0, &[b'n'; 255], true, Ok((2, &[b'n'; 255], None))),
+    (0, &[b'n'; 256], true, Err(Refusal::Nametoolong)),
+    (5, b"d/u", false, Ok((3, b"u", Some(7)))),
+    (7, b"d/u", false, Err(Refusal::Denied)),
+    (5, b"d/u", true, Ok((2, b"f", Some(4)))),
+    (5, b"d/a", true, Ok((2, b"f", Some(4)))),
+    (5, b"l/u", false, Ok((3, b"u", Some(7)))),
+    (0, b"l", false, Ok((2, b"l", Some(5)))),
+    (0, b"l", true, Ok((2, b"d", Some(3)))),
+    (0, b"o", false, Ok((2, b"o", Some(6)))),
+    (0, b"o", true, Err(Refusal::Loop)),
+    (
+        0,
+        b"l/../l/../l/../l/../l/../l/../l/../l",
+        true,
+        Ok((2, b"d", Some(3))),
+    ),
+    (
+        0,
+        b"l/../l/../l/../l/../l/../l/../l/../l/../l",
+        true,
+        Err(Refusal::Loop),
+    ),
+];
+
 // Puts the numbers into the image, as far as it goes.
 fn put(image: &mut [u8], words: &Words) {
     let (block, first, numbers) = *words;
@@ -99,61 +131,49 @@ fn is_answer(answer: &Result<Walked, WalkError>, want: &Result<End, Refusal>) ->
     }
 }
 
-#[test]
-fn paths_walked(rt: HostRuntime) -> Result<(), std::test::Fail> {
-    let alloc = rt.alloc();
+// Whether the walk ends so.
+fn ends(alloc: Global, store: &mut PlainStore, case: &Case) -> Result<bool, Mem> {
+    let (uid, path, follow, want) = *case;
+    let path = PathText::from_slice(alloc, path)?;
+    let answer = walk(alloc, store, &Cred { uid, gid: 7 }, &path, follow);
+    Ok(is_answer(&answer, &want))
+}
+
+fn are_walked(alloc: Global) -> Result<bool, Mem> {
     let mut store = PlainStore::new(&SMALLEST, image_of(alloc)?);
-    let cases: [Case; 19] = [
-        (0, b"/", true, Ok((2, b".", Some(2)))),
-        (0, b"//d//.", true, Ok((3, b".", Some(3)))),
-        (0, b"d/..", true, Ok((3, b"..", Some(2)))),
-        (0, b"d/x", true, Ok((3, b"x", None))),
-        (0, b"x/y", true, Err(Refusal::Noent)),
-        (0, b"f/y", true, Err(Refusal::Notdir)),
-        (0, &[b'n'; 255], true, Ok((2, &[b'n'; 255], None))),
-        (0, &[b'n'; 256], true, Err(Refusal::Nametoolong)),
-        (5, b"d/u", false, Ok((3, b"u", Some(7)))),
-        (7, b"d/u", false, Err(Refusal::Denied)),
-        (5, b"d/u", true, Ok((2, b"f", Some(4)))),
-        (5, b"d/a", true, Ok((2, b"f", Some(4)))),
-        (5, b"l/u", false, Ok((3, b"u", Some(7)))),
-        (0, b"l", false, Ok((2, b"l", Some(5)))),
-        (0, b"l", true, Ok((2, b"d", Some(3)))),
-        (0, b"o", false, Ok((2, b"o", Some(6)))),
-        (0, b"o", true, Err(Refusal::Loop)),
-        (
-            0,
-            b"l/../l/../l/../l/../l/../l/../l/../l",
-            true,
-            Ok((2, b"d", Some(3))),
-        ),
-        (
-            0,
-            b"l/../l/../l/../l/../l/../l/../l/../l/../l",
-            true,
-            Err(Refusal::Loop),
-        ),
-    ];
-    for (uid, path, follow, want) in cases {
-        let path = PathText::from_slice(alloc, path)?;
-        let answer = walk(alloc, &mut store, &Cred { uid, gid: 7 }, &path, follow);
-        assert!(rt; is_answer(&answer, &want));
+    for case in WALKED {
+        if !ends(alloc, &mut store, case)? {
+            return Ok(false);
+        }
     }
-    Ok(())
+    Ok(true)
+}
+
+// The volume on a disk that fails at this read, the first being 1.
+fn failing(alloc: Global, read: u64) -> Result<ReplayedDisk<MemDisk>, StoreError> {
+    let disk = MemDisk::new(image_of(alloc)?, vec![in alloc; Fail::Read(read)]?);
+    let laid = LaidDeltas::new(alloc, &TxList::new(alloc))?;
+    if disk.sectors() < 792 {
+        return Err(StoreError::Mem);
+    }
+    Ok(ReplayedDisk::over(disk, &SMALLEST, laid))
+}
+
+// Whether the walk to `f` tells that the disk failed at this read.
+fn fails(alloc: Global, read: u64) -> Result<bool, StoreError> {
+    let mut store = failing(alloc, read)?;
+    let path = PathText::from_slice(alloc, b"f")?;
+    let answer = walk(alloc, &mut store, &Cred { uid: 0, gid: 0 }, &path, false);
+    Ok(matches!(answer, Err(WalkError::Disk)))
 }
 
 #[test]
-fn reads_that_fail(rt: HostRuntime) -> Result<(), std::test::Fail> {
+fn paths_walked(rt: HostRuntime) -> Result<(), std::test::Fail> {
     let alloc = rt.alloc();
+    assert!(rt; are_walked(alloc)?);
     // For the root its record is read twice, and its block once.
-    for n in 1..4 {
-        let disk = MemDisk::new(image_of(alloc)?, vec![in alloc; Fail::Read(n)]?);
-        let laid = LaidDeltas::new(alloc, &TxList::new(alloc))?;
-        assert!(rt; disk.sectors() >= 792);
-        let mut store = ReplayedDisk::over(disk, &SMALLEST, laid);
-        let path = PathText::from_slice(alloc, b"f")?;
-        let answer = walk(alloc, &mut store, &Cred { uid: 0, gid: 0 }, &path, false);
-        assert!(rt; matches!(answer, Err(WalkError::Disk)), "{n}");
+    for read in 1..4 {
+        assert!(rt; fails(alloc, read)?, "{read}");
     }
     Ok(())
 }

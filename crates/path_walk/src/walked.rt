@@ -2,7 +2,7 @@
 use lufs_base::{Ino, Name};
 
 /// Where a walk ends (`docs/CALLS.md`, "Walking a path").
-#[derive(Debug, Drop)]
+#[derive(Drop)]
 pub struct Walked {
     /// The directory that the last name is looked up in.
     pub dir: Ino,

@@ -9,11 +9,10 @@ ghost use Rattle.path_walk.specs.declared.error.WalkError.TheVariants.{Disk};
 ghost use Rattle.path_walk.specs.Answers.{HoldsOfTree, AnswersWalk};
 ghost use Rattle.path_walk.specs.Stops.{CameTo};
 
+use crate::part_lookup::look_up;
 use crate::parts::Parts;
-use crate::refusals::refused_part;
-use crate::steps::{Next, next_step};
+use crate::steps::Next;
 use crate::{WalkError, Walked};
-use dir_ops::lookup;
 use lufs_base::Ino;
 use meta_draft::Draft;
 use meta_store::MetaRead;
@@ -27,7 +26,7 @@ const ROOT: Ino = Ino(2);
 const MOST_FOLLOWED: u32 = 8;
 
 /// How far a walk came.
-#[derive(Debug, Drop)]
+#[derive(Drop)]
 pub(crate) enum Stop {
     /// To its end.
     End(Walked),
@@ -62,14 +61,23 @@ fn walk_to_link<S: MetaRead>(
 {
     let mut dir = start;
     while let Some(part) = parts.next() {
-        if let Some(why) = refused_part(draft, store, cred, dir, &part)? {
-            return Err(WalkError::Refused(why));
-        }
-        let found = lookup(alloc, draft, store, dir, &part)?;
-        match next_step(alloc, draft, store, parts.is_empty(), follow, found)? {
+        let lead = look_up(
+            alloc,
+            draft,
+            store,
+            cred,
+            dir,
+            &part,
+            parts.is_empty(),
+            follow,
+        )?;
+        match lead.next {
             Next::End => {
-                let name = part;
-                return Ok(Stop::End(Walked { dir, name, found }));
+                return Ok(Stop::End(Walked {
+                    dir,
+                    name: part,
+                    found: lead.found,
+                }));
             }
             Next::Missing => return Err(WalkError::Refused(Refusal::Noent)),
             Next::Follow(text) => return Ok(Stop::Link(dir, text)),

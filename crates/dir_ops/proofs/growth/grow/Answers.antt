@@ -4,7 +4,7 @@ use Rattle.volume_model.specs.declared.directory.Slot.{Slot}
 use Rattle.meta_store.specs.declared.change.Change.{Change}
 use Rattle.meta_store.specs.Changes.{numbers_in}
 use Rattle.dir_ops.specs.Growth.{AddsByPointer, Grows}
-use Rattle.dir_ops.specs.declared.directory.Directory.{Directory}
+use Rattle.dir_reads.specs.declared.directory.Directory.{Directory}
 use Rattle.dir_ops.proofs.growth.grow.Goals as goal
 
 on_ok : {T E : Type 0} {A B : Type 0} (result : Result T E) → OnOk result A → (A → B) → OnOk result B

@@ -4,7 +4,7 @@ use Rattle.std.proofs.lemmas.Bool.{and_cases, and_parts, leb-true, leb-false, lt
 use Rattle.lufs_base.specs.Layout.{blocks_of}
 use Rattle.lufs_base.specs.declared.geometry.Geometry.{Geometry}
 use Rattle.volume_model.specs.Format.{inodes_of, dinode_bytes}
-use Rattle.meta_draft.specs.Deltas.{inode_delta}
+use Rattle.meta_store.specs.Deltas.{inode_delta}
 use Rattle.meta_draft.specs.Drafted.{with_delta}
 use Rattle.file_map.proofs.StoreKept.{unchanged_then}
 use Rattle.file_map.proofs.DroppedInodes.{none_dropped, past_dropped, low_dropped, used_result, taken_result, blocks_told, back_told}

@@ -9,7 +9,7 @@ use Rattle.volume_model.specs.Sound.{Tree, reading_of, has_bad_numbers, tree_of}
 use Rattle.history_model.specs.Names.{names_told, names_after}
 use Rattle.meta_store.specs.Changes.{changed}
 use Rattle.meta_store.specs.declared.change.Change.{Change}
-use Rattle.dir_ops.specs.Names.{first_names}
+use Rattle.dir_reads.specs.Names.{first_names}
 use Rattle.inode_reads.specs.InodeOf.{IsInodeOf}
 use Rattle.inode_reads.proofs.ByTree.{always, follows, follows_both}
 use Rattle.path_walk.specs.Answers.{end_of}

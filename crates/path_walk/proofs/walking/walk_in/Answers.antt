@@ -2,7 +2,7 @@ use Rattle.std.proofs.Common.{◌≡◌, ◌++◌, suc, ◌-◌, List, ℕ, Ok, 
 use Rattle.std.specs.Result.{IsErrAnd}
 use Rattle.sector_disk.proofs.MadeCalls.{none_then}
 use Rattle.meta_draft.specs.Drafted.{drafted}
-use Rattle.dir_ops.proofs.StoreSteps.{unchanged_then, kept_then}
+use Rattle.dir_reads.proofs.StoreSteps.{unchanged_then, kept_then}
 use Rattle.history_model.specs.Walk.{start_of, parts_of, walk_of}
 use Rattle.path_walk.specs.declared.walking.Stop.TheVariants.{End}
 use Rattle.path_walk.specs.Stops.{ComesToLink, CameTo}

@@ -1,0 +1,11 @@
+pub mod StoreSteps
+pub mod AllNumbers
+pub mod RightNumbers
+pub mod StoredNumbers
+pub mod OpenedTrees
+pub mod OpenedDirectories
+pub mod FirstChunks
+pub mod ChunksTold
+pub mod FoundSlots
+pub mod RoomsInTrees
+pub mod NamesInOrder

@@ -1,0 +1,5 @@
+pub mod Answers
+pub mod Chunks
+pub mod Directories
+pub mod Names
+pub mod Rooms
