@@ -1,4 +1,3 @@
-pub mod PutTexts
 pub mod VolumeSteps
 pub mod SessionSteps
 pub mod OutsideSteps

@@ -1,8 +1,8 @@
 -- How a session of `drive` ends: its status and its text.
-use Rattle.std.specs.Prelude.{ℕ, if◌then◌else◌, List, [], ◌∷◌, ◌++◌, codes}
-use Rattle.std.specs.Fmt.{decimal}
+use Rattle.std.specs.Prelude.{ℕ, if◌then◌else◌, List, [], ◌++◌, codes}
 use Rattle.volume_model.specs.declared.finding.Verdict.TheVariants.{Finding}
 use Rattle.volume_model.specs.Texts.{verdict_text}
+use Rattle.endings.specs.Lines.{named_line, counted_line, bad_log_line}
 use Rattle.drive_command.specs.declared.ending.DriveEnding.{DriveEnding}
 use Rattle.drive_command.specs.declared.ending.DriveEnding.TheVariants.{Missing, ReadFault, OverLimit, DiskFault, NotVolume, BadHeader, EpochSpent, BadLog, Unsound, ReplyFault, NoMemory, Driven}
 use Rattle.drive_command.specs.declared.ending.SinkName.{SinkName}
@@ -35,14 +35,6 @@ drive_status (ReplyFault name) = 5
 drive_status NoMemory = 12
 drive_status (Driven text starved) = if starved then 12 else 0
 
--- words and a name after them, as one line
-abbrev pub named_line : List ℕ → List ℕ → List ℕ
-named_line words name = words ++ (32 ∷ (name ++ 10 ∷ []))
-
--- the same with a number after the name
-abbrev pub counted_line : List ℕ → List ℕ → ℕ → List ℕ
-counted_line words name number = named_line words (name ++ (32 ∷ decimal number))
-
 -- what is printed
 abbrev pub drive_text : DriveEnding → List ℕ
 drive_text (Missing name) = named_line (codes "missing") name.now
@@ -52,7 +44,7 @@ drive_text (DiskFault name) = named_line (codes "disk fault") name.now
 drive_text (NotVolume name) = named_line (codes "not a volume") name.now
 drive_text BadHeader = codes "bad log header\n"
 drive_text (EpochSpent name) = named_line (codes "epoch spent") name.now
-drive_text (BadLog tid place) = counted_line (codes "bad log") (decimal tid) place
+drive_text (BadLog tid place) = bad_log_line tid place
 drive_text (Unsound kind number) = verdict_text (Finding kind number)
 drive_text (ReplyFault name) = named_line (codes "reply fault") (sink_name name)
 drive_text NoMemory = codes "no memory\n"

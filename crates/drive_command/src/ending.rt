@@ -6,7 +6,7 @@ use lufs_base::Bytes;
 use volume_model::Kind;
 
 /// A sink that a session writes.
-#[derive(Clone, Copy, Debug, PartialEq, Eq)]
+#[derive(Clone, Copy)]
 pub enum SinkName<'a> {
     /// That of the history, which is named after the volume.
     History(&'a str),
@@ -15,7 +15,7 @@ pub enum SinkName<'a> {
 }
 
 /// How a session ended, with the name that its line says (`docs/FORMAT.md`, "Statuses").
-#[derive(Debug, Drop)]
+#[derive(Drop)]
 pub enum DriveEnding<'a> {
     /// There is no source, or no disk, of this name.
     Missing(&'a str),

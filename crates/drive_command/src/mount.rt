@@ -21,7 +21,7 @@ use std::alloc::Global;
 use volume_model::{Kind, Verdict};
 
 /// Why a session has no volume, though its disk was lent.
-#[derive(Clone, Copy, Debug, PartialEq, Eq)]
+#[derive(Clone, Copy)]
 pub enum MountError {
     /// The disk holds no volume.
     NotVolume,

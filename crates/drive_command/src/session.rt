@@ -23,7 +23,7 @@ use std::alloc::Global;
 use tree_types::{Entry, Line, Refusal, Reply};
 
 /// What became of the history.
-#[derive(Clone, Copy, Debug, PartialEq, Eq)]
+#[derive(Clone, Copy)]
 pub enum Kept {
     /// It was put whole.
     Whole,

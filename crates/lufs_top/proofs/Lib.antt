@@ -3,7 +3,6 @@ pub mod Ranges
 pub mod NumberTests
 pub mod Content
 pub mod ListingText
-pub mod PutTexts
 pub mod CommandSteps
 pub mod ScanSteps
 pub mod CheckSteps

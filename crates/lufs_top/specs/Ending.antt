@@ -1,8 +1,8 @@
 -- How a command ends: its status and its text.
-use Rattle.std.specs.Prelude.{◌≡◌, ℕ, List, [], ◌∷◌, ◌++◌, codes, string_bytes}
-use Rattle.std.specs.Fmt.{decimal}
+use Rattle.std.specs.Prelude.{◌≡◌, ℕ, List, codes, string_bytes}
 use Rattle.volume_model.specs.declared.finding.Verdict.TheVariants.{Clean, Finding}
 use Rattle.volume_model.specs.Texts.{verdict_text}
+use Rattle.endings.specs.Lines.{named_line, counted_line, bad_log_line}
 use Rattle.drive_command.specs.Ending.{drive_status, drive_text}
 use Rattle.host_io.specs.declared.host.HostError.{HostError}
 use Rattle.host_io.specs.declared.host.HostError.TheVariants as hosts
@@ -43,37 +43,29 @@ status_of (Check volume ended) = check_status ended
 status_of (Mkfs ended) = mkfs_status ended
 status_of (Drive ended) = drive_status ended
 
--- words and a name after them, as one line
-abbrev pub line_of : List ℕ → List ℕ → List ℕ
-line_of words name = words ++ (32 ∷ (name ++ 10 ∷ []))
-
--- what is printed of a run of the log that breaks its rules
-abbrev pub bad_log_line : (tid place : ℕ) → List ℕ
-bad_log_line tid place = line_of (codes "bad log") (decimal tid ++ (32 ∷ decimal place))
-
 -- what a scan prints of the volume of this name
 abbrev pub scan_line : List ℕ → ScanEnding → List ℕ
 scan_line volume (Listed text) = string_bytes text
-scan_line volume NotVolume = line_of (codes "not a volume") volume
+scan_line volume NotVolume = named_line (codes "not a volume") volume
 scan_line volume BadHeader = codes "bad log header\n"
 scan_line volume (BadRun tid place) = bad_log_line tid place
 
 -- what a check prints of the volume of this name
 abbrev pub check_line : List ℕ → CheckEnding → List ℕ
 check_line volume (checks.Checked verdict) = verdict_text verdict
-check_line volume checks.NotVolume = line_of (codes "not a volume") volume
+check_line volume checks.NotVolume = named_line (codes "not a volume") volume
 check_line volume checks.BadHeader = codes "bad log header\n"
 check_line volume (checks.BadRun tid place) = bad_log_line tid place
 
 abbrev pub mkfs_line : MkfsEnding → List ℕ
 mkfs_line (Made text) = string_bytes text
-mkfs_line (Refused bad) = line_of (codes "geometry") (name_of_number bad.word ++ (32 ∷ decimal bad.number))
+mkfs_line (Refused bad) = counted_line (codes "geometry") (name_of_number bad.word) bad.number
 
 -- what is printed
 abbrev pub text_of : Ending → List ℕ
 text_of Usage = codes "usage\n"
-text_of (Missing name) = line_of (codes "missing") name.now
-text_of (DiskFault name) = line_of (codes "disk fault") name.now
+text_of (Missing name) = named_line (codes "missing") name.now
+text_of (DiskFault name) = named_line (codes "disk fault") name.now
 text_of NoMemory = codes "no memory\n"
 text_of (Scan volume ended) = scan_line volume.now ended
 text_of (Check volume ended) = check_line volume.now ended

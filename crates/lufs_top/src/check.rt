@@ -2,7 +2,6 @@
 ghost use Rattle.std.specs.Prelude.{◌≡◌, ◌≤◌, ◌*◌, IfOk, IfSome, IsErrOf};
 ghost use Rattle.lufs_base.specs.Layout.{IsGeometry, blocks_of};
 ghost use Rattle.sector_disk.specs.Disk.{IsUnwritten, FailsJustAt};
-ghost use Rattle.volume_model.specs.Texts.{word_of};
 ghost use Rattle.lufs_top.specs.Check.{CheckRan, IsCheckOf, IsStopped, IsVerdictAfter, ended_by};
 ghost use Rattle.lufs_top.specs.Ending.{check_status};
 
@@ -14,10 +13,10 @@ use lufs_base::Geometry;
 use meta_store::{LaidDeltas, ReplayedDisk, StoreError};
 use sector_disk::Disk;
 use std::alloc::Global;
-use volume_model::{Kind, Verdict};
+use volume_model::Verdict;
 
 /// What a check found.
-#[derive(Clone, Copy, Debug, PartialEq, Eq)]
+#[derive(Clone, Copy)]
 pub(crate) enum CheckEnding {
     /// The volume was checked to its end, or to the first finding.
     Checked(Verdict),
@@ -40,26 +39,6 @@ impl CheckEnding {
             CheckEnding::NotVolume => 6,
             CheckEnding::BadHeader | CheckEnding::BadRun { .. } => 11,
         }
-    }
-}
-
-/// The word that a kind of finding is printed by.
-pub(crate) fn word_of(kind: Kind) -> &'static str
-    ensures { result.now ≡ word_of kind }
-{
-    match kind {
-        Kind::Group => "group",
-        Kind::Inode => "inode",
-        Kind::Fields => "fields",
-        Kind::Root => "root",
-        Kind::Twice => "twice",
-        Kind::Chunk => "chunk",
-        Kind::Name => "name",
-        Kind::Parent => "parent",
-        Kind::Links => "links",
-        Kind::InodeBit => "inodebit",
-        Kind::BlockBit => "blockbit",
-        Kind::Count => "count",
     }
 }
 

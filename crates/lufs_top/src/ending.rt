@@ -9,7 +9,7 @@ use drive_command::DriveEnding;
 use host_io::HostError;
 
 /// How a command ended, with the name of the volume where a line names it.
-#[derive(Debug, Drop)]
+#[derive(Drop)]
 pub(crate) enum Ending<'a> {
     /// The words aren't a command.
     Usage,

@@ -13,7 +13,7 @@ use new_volume::{MkfsError, mkfs};
 use std::alloc::Global;
 
 /// What came of making a volume.
-#[derive(Debug, Drop)]
+#[derive(Drop)]
 pub(crate) enum MkfsEnding {
     /// It is made, and this line tells of it.
     Made(String),

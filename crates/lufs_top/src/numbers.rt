@@ -6,7 +6,7 @@ ghost use Rattle.lufs_top.specs.Numbers.{first_out_of_range, geometry_from, has_
 use lufs_base::{Geometry, is_step};
 
 /// The numbers that a new volume is to have, as they were given.
-#[derive(Clone, Copy, Debug, PartialEq, Eq)]
+#[derive(Clone, Copy)]
 pub(crate) struct VolumeNumbers {
     /// Groups of the volume.
     pub(crate) groups: u64,
@@ -19,7 +19,7 @@ pub(crate) struct VolumeNumbers {
 }
 
 /// A number of a new volume that can be wrong.
-#[derive(Clone, Copy, Debug, PartialEq, Eq)]
+#[derive(Clone, Copy)]
 pub(crate) enum GeometryWord {
     Groups,
     Bpg,
@@ -45,7 +45,7 @@ impl GeometryWord {
 }
 
 /// A number that is out of its range, or too small.
-#[derive(Clone, Copy, Debug, PartialEq, Eq)]
+#[derive(Clone, Copy)]
 pub(crate) struct BadNumber {
     pub(crate) word: GeometryWord,
     pub(crate) number: u64,

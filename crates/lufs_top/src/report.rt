@@ -1,66 +1,19 @@
 //! Prints how a command ended, and answers the exit status.
-ghost use Rattle.std.specs.Prelude.{◌≡◌, ◌∷◌, ◌++◌};
-ghost use Rattle.std.specs.Fmt.{decimal};
+ghost use Rattle.std.specs.Prelude.{◌≡◌};
 ghost use Rattle.host_io.specs.Outside.{Puts};
-ghost use Rattle.volume_model.specs.declared.finding.Verdict.TheVariants.{Clean};
-ghost use Rattle.volume_model.specs.Texts.{field, verdict_text};
-ghost use Rattle.lufs_top.specs.Ending.{line_of, text_of, bad_log_line, scan_line, check_line, mkfs_line};
+ghost use Rattle.lufs_top.specs.Ending.{text_of, scan_line, check_line, mkfs_line};
 ghost use Rattle.lufs_top.specs.Run.{Says, status_if_cut};
 
-use crate::check::{CheckEnding, word_of};
+use crate::check::CheckEnding;
 use crate::ending::Ending;
 use crate::mkfs::MkfsEnding;
 use crate::numbers::BadNumber;
 use crate::scan::ScanEnding;
+use endings::{put_bad_log, put_line, put_number, put_verdict};
 use host_io::{Sink, SinkFault};
-use itoa::Buffer;
-use volume_model::{Counts, Verdict};
 
 /// The status where standard output failed, or the host didn't lend it.
 pub(crate) const REPLY_FAULT: u8 = 5;
-
-// Puts two texts, one after the other.
-fn put_both<K: Sink>(out: &mut K, first: &[u8], second: &[u8]) -> Result<(), SinkFault>
-    ensures { Puts (first.now ++ second.now) result (K.told out.old) (K.told out.new) }
-{
-    out.put(first)?;
-    out.put(second)
-}
-
-// Puts words and a name after them, as one line.
-fn put_line<K: Sink>(out: &mut K, words: &[u8], name: &[u8]) -> Result<(), SinkFault>
-    ensures { Puts (line_of words.now name.now) result (K.told out.old) (K.told out.new) }
-{
-    put_both(out, words, b" ")?;
-    put_both(out, name, b"\n")
-}
-
-// Puts words, a name and a number after them, as one line.
-fn put_number<K: Sink>(out: &mut K, words: &[u8], name: &[u8], number: u64) -> Result<(), SinkFault>
-    ensures { Puts (line_of words.now (name.now ++ (32 ∷ decimal number))) result (K.told out.old) (K.told out.new) }
-{
-    let mut buffer = Buffer::new();
-    put_both(out, words, b" ")?;
-    put_both(out, name, b" ")?;
-    put_both(out, buffer.format(number).as_bytes(), b"\n")
-}
-
-// Puts words and a number after them.
-fn put_field<K: Sink>(out: &mut K, words: &[u8], number: u32) -> Result<(), SinkFault>
-    ensures { Puts (field words.now number) result (K.told out.old) (K.told out.new) }
-{
-    let mut buffer = Buffer::new();
-    put_both(out, words, b" ")?;
-    out.put(buffer.format(number).as_bytes())
-}
-
-fn put_bad_log<K: Sink>(out: &mut K, tid: u32, place: u32) -> Result<(), SinkFault>
-    ensures { Puts (bad_log_line tid place) result (K.told out.old) (K.told out.new) }
-{
-    let mut buffer = Buffer::new();
-    let tid = buffer.format(tid).as_bytes();
-    put_number(out, b"bad log", tid, u64::from(place))
-}
 
 fn put_scan<K: Sink>(out: &mut K, volume: &str, ended: &ScanEnding) -> Result<(), SinkFault>
     ensures { Puts (scan_line volume.now ended.now) result (K.told out.old) (K.told out.new) }
@@ -70,27 +23,6 @@ fn put_scan<K: Sink>(out: &mut K, volume: &str, ended: &ScanEnding) -> Result<()
         ScanEnding::NotVolume => put_line(out, b"not a volume", volume.as_bytes()),
         ScanEnding::BadHeader => out.put(b"bad log header\n"),
         ScanEnding::BadRun { tid, place } => put_bad_log(out, *tid, *place),
-    }
-}
-
-fn put_counts<K: Sink>(out: &mut K, counts: &Counts) -> Result<(), SinkFault>
-    ensures { Puts (verdict_text (Clean counts.now)) result (K.told out.old) (K.told out.new) }
-{
-    put_field(out, b"clean inodes", counts.inodes)?;
-    put_field(out, b" blocks", counts.blocks)?;
-    put_field(out, b" free", counts.free)?;
-    out.put(b"\n")
-}
-
-fn put_verdict<K: Sink>(out: &mut K, verdict: &Verdict) -> Result<(), SinkFault>
-    ensures { Puts (verdict_text verdict.now) result (K.told out.old) (K.told out.new) }
-{
-    match verdict {
-        Verdict::Clean(counts) => put_counts(out, counts),
-        Verdict::Finding(kind, number) => {
-            let word = word_of(*kind).as_bytes();
-            put_number(out, b"unsound", word, u64::from(*number))
-        }
     }
 }
 

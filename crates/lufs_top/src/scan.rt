@@ -14,7 +14,7 @@ use sector_disk::Disk;
 use std::alloc::Global;
 
 /// What a scan found.
-#[derive(Debug, Drop)]
+#[derive(Drop)]
 pub(crate) enum ScanEnding {
     /// The log, in this listing.
     Listed(String),
@@ -40,7 +40,7 @@ impl ScanEnding {
 }
 
 /// Why a volume wasn't scanned to its end.
-#[derive(Clone, Copy, Debug, PartialEq, Eq)]
+#[derive(Clone, Copy)]
 enum Stop {
     DiskFault,
     NoMemory,

@@ -6,7 +6,7 @@ ghost use Rattle.drive_command.specs.Ending.{history_name, out_name};
 use crate::numbers::{VolumeNumbers, number_of};
 
 /// What the words of a command ask for.
-#[derive(Clone, Copy, Debug)]
+#[derive(Clone, Copy)]
 pub(crate) enum Command<'a> {
     /// Lists the transactions in the log of a volume.
     Scan {

@@ -1,179 +1,124 @@
 //! `mkfs` over a host in memory: what it makes, what it refuses, and each call that fails.
 
-use crate::volumes::{CLEAN, Failing, NOTHING, ROOT, SAME, made, put, run_over, run_words, volume};
+use crate::volumes::{CLEAN, Failing, ROOT, SAME, answers, leaves, volume};
 use host_io::MemHost;
 use sector_disk::Fail;
 
 const MADE: &str = "made blocks 99 inodes 30 free 61 ring 255\n";
 
+const FAULT: &str = "disk fault S\n";
+
+const USAGE: &str = "usage\n";
+
+/// What is said of numbers in range, of a disk that is too small for any volume.
+const IN_RANGE: &str = "geometry sectors 8\n";
+
+/// The words of commands that follow on each other, their statuses and what they say.
+const STEPS: &[(&[&str], u8, &str)] = &[
+    (&["mkfs", "S", "1", "64", "32", "256"], 0, MADE),
+    (
+        &["scan", "S"],
+        0,
+        "epoch 1 head 0 tid 1 ring 255\ncommitted 0 sectors 0\n",
+    ),
+    (&["check", "S"], 0, CLEAN),
+    (
+        &["mkfs", "T", "3", "72", "64", "264"],
+        0,
+        "made blocks 252 inodes 190 free 206 ring 263\n",
+    ),
+    (
+        &["scan", "T"],
+        0,
+        "epoch 1 head 0 tid 1 ring 263\ncommitted 0 sectors 0\n",
+    ),
+    (&["check", "T"], 0, "clean inodes 1 blocks 1 free 206\n"),
+    (
+        &["mkfs", "U", "1", "60", "32", "256"],
+        10,
+        "geometry bpg 60\n",
+    ),
+    (&["scan", "U"], 2, "missing U\n"),
+];
+
+/// The groups, blocks and inodes of a group, and sectors of the log, the status and what is said.
+const NUMBERS: &[([&str; 4], u8, &str)] = &[
+    (["1", "64", "32", "256"], 10, IN_RANGE),
+    (["64", "2048", "1024", "65536"], 10, IN_RANGE),
+    (["0", "64", "32", "256"], 10, "geometry G 0\n"),
+    (["65", "64", "32", "256"], 10, "geometry G 65\n"),
+    (["1", "56", "32", "256"], 10, "geometry bpg 56\n"),
+    (["1", "63", "32", "256"], 10, "geometry bpg 63\n"),
+    (["1", "68", "32", "256"], 10, "geometry bpg 68\n"),
+    (["1", "2049", "32", "256"], 10, "geometry bpg 2049\n"),
+    (["1", "2056", "32", "256"], 10, "geometry bpg 2056\n"),
+    (["1", "64", "0", "256"], 10, "geometry ipg 0\n"),
+    (["1", "64", "31", "256"], 10, "geometry ipg 31\n"),
+    (["1", "64", "48", "256"], 10, "geometry ipg 48\n"),
+    (["1", "64", "1025", "256"], 10, "geometry ipg 1025\n"),
+    (["1", "64", "1056", "256"], 10, "geometry ipg 1056\n"),
+    (["1", "64", "32", "248"], 10, "geometry L 248\n"),
+    (["1", "64", "32", "255"], 10, "geometry L 255\n"),
+    (["1", "64", "32", "260"], 10, "geometry L 260\n"),
+    (["1", "64", "32", "65537"], 10, "geometry L 65537\n"),
+    (["1", "64", "32", "65544"], 10, "geometry L 65544\n"),
+    (["65", "0", "0", "0"], 10, "geometry G 65\n"),
+    (["1", "0", "0", "0"], 10, "geometry bpg 0\n"),
+    (["1", "64", "0", "0"], 10, "geometry ipg 0\n"),
+    (
+        ["18446744073709551615", "64", "32", "256"],
+        10,
+        "geometry G 18446744073709551615\n",
+    ),
+    (["18446744073709551616", "64", "32", "256"], 1, USAGE),
+    (["01", "64", "32", "256"], 1, USAGE),
+    (["00", "64", "32", "256"], 1, USAGE),
+    (["+1", "64", "32", "256"], 1, USAGE),
+    (["-1", "64", "32", "256"], 1, USAGE),
+    (["1", "", "32", "256"], 1, USAGE),
+    (["1", "64", "3 2", "256"], 1, USAGE),
+    (["1", "64", "32", "0x100"], 1, USAGE),
+];
+
+/// The sectors of the disk, what fails, the status, what is said, and how many writes and flushes the disk lists.
+const DISKS: &[(u16, Failing, u8, &str, u64)] = &[
+    (0, Failing::Nothing, 10, "geometry sectors 0\n", 0),
+    (791, Failing::Nothing, 10, "geometry sectors 791\n", 0),
+    (792, Failing::Nothing, 0, MADE, 7),
+    (793, Failing::Nothing, 0, MADE, 7),
+    (792, Failing::Disk(Fail::Write(1)), 4, FAULT, 1),
+    (792, Failing::Disk(Fail::Flush(3)), 4, FAULT, 6),
+    (792, Failing::Disk(Fail::Read(1)), 0, MADE, 7),
+    (792, Failing::Host(1), 5, "none", 0),
+    (792, Failing::Host(2), 4, FAULT, 0),
+    (792, Failing::Put("-", 1), 5, "", 7),
+];
+
 #[test]
 fn volumes_that_are_made(rt: HostRuntime) -> Result<(), std::test::Fail> {
-    let mut host = MemHost::new(rt.alloc(), 1000);
-    for (words, status, text) in [
-        (["mkfs", "S", "1", "64", "32", "256"].as_slice(), 0, MADE),
-        (
-            ["scan", "S"].as_slice(),
-            0,
-            "epoch 1 head 0 tid 1 ring 255\ncommitted 0 sectors 0\n",
-        ),
-        (["check", "S"].as_slice(), 0, CLEAN),
-        (
-            ["mkfs", "T", "3", "72", "64", "264"].as_slice(),
-            0,
-            "made blocks 252 inodes 190 free 206 ring 263\n",
-        ),
-        (
-            ["scan", "T"].as_slice(),
-            0,
-            "epoch 1 head 0 tid 1 ring 263\ncommitted 0 sectors 0\n",
-        ),
-        (
-            ["check", "T"].as_slice(),
-            0,
-            "clean inodes 1 blocks 1 free 206\n",
-        ),
-        (
-            ["mkfs", "U", "1", "60", "32", "256"].as_slice(),
-            10,
-            "geometry bpg 60\n",
-        ),
-        (["scan", "U"].as_slice(), 2, "missing U\n"),
-    ] {
-        assert_eq!(rt;
-            run_words(rt.alloc(), &mut host, words)?,
-            status,
-            "{words:?}"
-        );
-        assert_eq!(rt; host.sink("-").unwrap_or(b""), text.as_bytes(), "{words:?}");
-    }
-    for (sectors, status, text, calls) in [
-        (0, 10, "geometry sectors 0\n", 0),
-        (791, 10, "geometry sectors 791\n", 0),
-        (792, 0, MADE, 7),
-        (793, 0, MADE, 7),
-    ] {
-        let image = volume(rt.alloc(), sectors, &ROOT, SAME)?;
-        let words = ["mkfs", "S", "1", "64", "32", "256"];
-        let left = run_over(rt.alloc(), &words, image, NOTHING)?;
-        assert_eq!(rt; left.status, status, "{sectors}");
-        assert_eq!(rt; left.text.as_slice(), text.as_bytes(), "{sectors}");
-        assert_eq!(rt;
-            (left.sectors, left.calls),
-            (u64::from(sectors), calls),
-            "{sectors}"
-        );
+    let alloc = rt.alloc();
+    let mut host = MemHost::new(alloc, 1000);
+    for (words, status, text) in STEPS {
+        let is_told = answers(alloc, &mut host, words, *status, text)?;
+        assert!(rt; is_told, "{words:?}");
     }
     Ok(())
 }
 
 #[test]
-fn numbers_of_a_new_volume(rt: HostRuntime) -> Result<(), std::test::Fail> {
-    // The disk is too small for any volume.
-    let in_range = "geometry sectors 8\n";
-    let usage = "usage\n";
-    for (groups, bpg, ipg, log, text) in [
-        ("1", "64", "32", "256", in_range),
-        ("64", "2048", "1024", "65536", in_range),
-        ("0", "64", "32", "256", "geometry G 0\n"),
-        ("65", "64", "32", "256", "geometry G 65\n"),
-        ("1", "56", "32", "256", "geometry bpg 56\n"),
-        ("1", "63", "32", "256", "geometry bpg 63\n"),
-        ("1", "68", "32", "256", "geometry bpg 68\n"),
-        ("1", "2049", "32", "256", "geometry bpg 2049\n"),
-        ("1", "2056", "32", "256", "geometry bpg 2056\n"),
-        ("1", "64", "0", "256", "geometry ipg 0\n"),
-        ("1", "64", "31", "256", "geometry ipg 31\n"),
-        ("1", "64", "48", "256", "geometry ipg 48\n"),
-        ("1", "64", "1025", "256", "geometry ipg 1025\n"),
-        ("1", "64", "1056", "256", "geometry ipg 1056\n"),
-        ("1", "64", "32", "248", "geometry L 248\n"),
-        ("1", "64", "32", "255", "geometry L 255\n"),
-        ("1", "64", "32", "260", "geometry L 260\n"),
-        ("1", "64", "32", "65537", "geometry L 65537\n"),
-        ("1", "64", "32", "65544", "geometry L 65544\n"),
-        ("65", "0", "0", "0", "geometry G 65\n"),
-        ("1", "0", "0", "0", "geometry bpg 0\n"),
-        ("1", "64", "0", "0", "geometry ipg 0\n"),
-        (
-            "18446744073709551615",
-            "64",
-            "32",
-            "256",
-            "geometry G 18446744073709551615\n",
-        ),
-        ("18446744073709551616", "64", "32", "256", usage),
-        ("01", "64", "32", "256", usage),
-        ("00", "64", "32", "256", usage),
-        ("+1", "64", "32", "256", usage),
-        ("-1", "64", "32", "256", usage),
-        ("1", "", "32", "256", usage),
-        ("1", "64", "3 2", "256", usage),
-        ("1", "64", "32", "0x100", usage),
-    ] {
+fn numbers_and_disks(rt: HostRuntime) -> Result<(), std::test::Fail> {
+    let alloc = rt.alloc();
+    for ([groups, bpg, ipg, log], status, text) in NUMBERS {
         let words = ["mkfs", "S", groups, bpg, ipg, log];
-        let image = volume(rt.alloc(), 8, &[], SAME)?;
-        let left = run_over(rt.alloc(), &words, image, NOTHING)?;
-        let status = if text == usage { 1 } else { 10 };
-        assert_eq!(rt; left.status, status, "{words:?}");
-        assert_eq!(rt; left.text.as_slice(), text.as_bytes(), "{words:?}");
-        assert_eq!(rt; (left.sectors, left.calls), (8, 0), "{words:?}");
+        let image = volume(alloc, 8, &[], SAME)?;
+        let is_left = leaves(alloc, &words, image, Failing::Nothing, (*status, text, 0))?;
+        assert!(rt; is_left, "{words:?}");
     }
-    Ok(())
-}
-
-#[test]
-fn calls_of_mkfs_that_fail(rt: HostRuntime) -> Result<(), std::test::Fail> {
     let words = ["mkfs", "S", "1", "64", "32", "256"];
-    let fault = "disk fault S\n";
-    for (fail, status, text, calls) in [
-        (Fail::Write(1), 4, fault, 1),
-        (Fail::Flush(3), 4, fault, 6),
-        (Fail::Read(1), 0, MADE, 7),
-    ] {
-        let failing = Failing {
-            disk: Some(fail),
-            ..NOTHING
-        };
-        let image = volume(rt.alloc(), 792, &[], SAME)?;
-        let left = run_over(rt.alloc(), &words, image, failing)?;
-        assert_eq!(rt; left.status, status, "{fail:?}");
-        assert_eq!(rt; left.text.as_slice(), text.as_bytes(), "{fail:?}");
-        assert_eq!(rt; (left.sectors, left.calls), (792, calls), "{fail:?}");
-    }
-    for (failing, status, text, calls) in [
-        (
-            Failing {
-                take: Some(1),
-                ..NOTHING
-            },
-            5,
-            "",
-            0,
-        ),
-        (
-            Failing {
-                take: Some(2),
-                ..NOTHING
-            },
-            4,
-            fault,
-            0,
-        ),
-        (
-            Failing {
-                put: Some(1),
-                ..NOTHING
-            },
-            5,
-            "",
-            7,
-        ),
-    ] {
-        let image = volume(rt.alloc(), 792, &[], SAME)?;
-        let left = run_over(rt.alloc(), &words, image, failing)?;
-        assert_eq!(rt; left.status, status, "{failing:?}");
-        assert_eq!(rt; left.text.as_slice(), text.as_bytes(), "{failing:?}");
-        assert_eq!(rt; (left.sectors, left.calls), (792, calls), "{failing:?}");
+    for (k, (sectors, failing, status, text, calls)) in DISKS.iter().enumerate() {
+        let image = volume(alloc, *sectors, &ROOT, SAME)?;
+        let is_left = leaves(alloc, &words, image, *failing, (*status, text, *calls))?;
+        assert!(rt; is_left, "row {k}");
     }
     Ok(())
 }

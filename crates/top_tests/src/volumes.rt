@@ -138,29 +138,14 @@ pub(crate) const CLEAN: &str = "clean inodes 1 blocks 1 free 61\n";
 
 pub(crate) const NONE: &str = "epoch 3 head 0 tid 1 ring 255\ncommitted 0 sectors 0\n";
 
-/// What fails: takes and puts of the host by their numbers, and calls of the disk.
-#[derive(Clone, Copy, Debug)]
-pub(crate) struct Failing {
-    pub(crate) take: Option<u64>,
-    pub(crate) put: Option<u64>,
-    pub(crate) disk: Option<Fail>,
-}
-
-pub(crate) const NOTHING: Failing = Failing {
-    take: None,
-    put: None,
-    disk: None,
-};
-
-/// What a run left.
-#[derive(Debug, Drop)]
-pub(crate) struct Left {
-    pub(crate) status: u8,
-    pub(crate) text: Vec<u8>,
-    /// How many sectors the disk has that is back, 0 where none is.
-    pub(crate) sectors: u64,
-    /// How many of its writes and flushes it lists.
-    pub(crate) calls: u64,
+/// The call that fails: a take or make of the host, a take of a source, a put of a sink, or a call of the disk.
+#[derive(Clone, Copy)]
+pub(crate) enum Failing {
+    Nothing,
+    Host(u64),
+    Take(&'static str, u64),
+    Put(&'static str, u64),
+    Disk(Fail),
 }
 
 // Writes a word, where it fits.
@@ -288,6 +273,28 @@ pub(crate) fn log_group(image: &mut [u8])
     put(image, (25, 508, 1));
 }
 
+// A host at moment 1000 that holds that image under `S`.
+pub(crate) fn host_with(alloc: Global, image: Vec<u8>, failing: Failing) -> Result<MemHost, Mem>
+    requires { length image.items % 512 ≡ 0 }
+{
+    let mut host = MemHost::new(alloc, 1000);
+    let mut fails = Vec::new(alloc);
+    match failing {
+        Failing::Nothing => {}
+        Failing::Host(k) => host.fail_host(k)?,
+        Failing::Take(name, k) => host.fail_take(name, k)?,
+        Failing::Put(name, k) => host.fail_put(name, k)?,
+        Failing::Disk(fail) => fails.push(fail)?,
+    }
+    host.add_disk("S", MemDisk::new(image, fails))?;
+    Ok(host)
+}
+
+// Whether the sink of that name holds that text, or there is none where the text is "none".
+pub(crate) fn holds(host: &MemHost, name: &str, text: &str) -> bool {
+    host.sink(name).unwrap_or(b"none") == text.as_bytes()
+}
+
 // What `lufs` answers to these words.
 pub(crate) fn run_words(alloc: Global, host: &mut MemHost, words: &[&str]) -> Result<u8, Mem> {
     let mut said = Vec::new(alloc);
@@ -297,32 +304,36 @@ pub(crate) fn run_words(alloc: Global, host: &mut MemHost, words: &[&str]) -> Re
     Ok(run(alloc, host, &said))
 }
 
-// What `lufs` does with these words, where the host holds that image under `S`.
-pub(crate) fn run_over(
+// Whether `lufs` answers that status to these words, and says that text.
+pub(crate) fn answers(
+    alloc: Global,
+    host: &mut MemHost,
+    words: &[&str],
+    status: u8,
+    text: &str,
+) -> Result<bool, Mem> {
+    let answer = run_words(alloc, host, words)?;
+    Ok(answer == status && holds(host, "-", text))
+}
+
+// Whether `lufs` answers that over a host that holds that image, and leaves a disk of as many sectors, which lists so
+// many writes and flushes.
+pub(crate) fn leaves(
     alloc: Global,
     words: &[&str],
     image: Vec<u8>,
     failing: Failing,
-) -> Result<Left, Mem>
+    want: (u8, &str, u64),
+) -> Result<bool, Mem>
     requires { length image.items % 512 ≡ 0 }
 {
-    let mut host = MemHost::new(alloc, 1000);
-    if let Some(k) = failing.take {
-        host.fail_host(k)?;
-    }
-    if let Some(k) = failing.put {
-        host.fail_put("-", k)?;
-    }
-    let mut fails = Vec::new(alloc);
-    if let Some(fail) = failing.disk {
-        fails.push(fail)?;
-    }
-    host.add_disk("S", MemDisk::new(image, fails))?;
-    let status = run_words(alloc, &mut host, words)?;
-    Ok(Left {
-        status,
-        text: Vec::from_slice(alloc, host.sink("-").unwrap_or(b""))?,
-        sectors: host.disk("S").map_or(0, |disk| disk.sectors()),
-        calls: host.disk("S").map_or(0, |disk| disk.calls()),
-    })
+    let (status, text, calls) = want;
+    let bytes = image.len() as u64;
+    let mut host = host_with(alloc, image, failing)?;
+    let is_told = answers(alloc, &mut host, words, status, text)?;
+    Ok(
+        is_told
+            && host.disk("S").is_some_and(|disk| disk.sectors() == bytes / 512
+                && disk.calls() == calls),
+    )
 }

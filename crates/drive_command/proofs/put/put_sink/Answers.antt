@@ -1,5 +1,5 @@
 use Rattle.std.proofs.Common.{[], ◌∷◌, ◌++◌}
-use Rattle.drive_command.proofs.PutTexts.{puts_both, puts_first, puts_cut, puts_as, line_of_two}
+use Rattle.endings.proofs.PutTexts.{puts_both, puts_first, puts_cut, puts_as, line_of_two}
 use Rattle.drive_command.proofs.put.put_sink.Goals as goal
 
 pub returns-in_err-put_both : goal.returns-in_err-put_both

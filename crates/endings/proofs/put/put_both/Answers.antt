@@ -1,5 +1,5 @@
-use Rattle.drive_command.proofs.PutTexts.{puts_both, puts_cut}
-use Rattle.drive_command.proofs.put.put_both.Goals as goal
+use Rattle.endings.proofs.PutTexts.{puts_both, puts_cut}
+use Rattle.endings.proofs.put.put_both.Goals as goal
 
 pub returns-in_err-put : goal.returns-in_err-put
 returns-in_err-put g c =

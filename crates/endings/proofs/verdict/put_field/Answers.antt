@@ -1,7 +1,7 @@
 use Rattle.std.proofs.Common.{◌≡◌, [], ◌∷◌, ◌++◌, ◌∙◌}
 use Rattle.std.specs.Fmt.{decimal}
-use Rattle.lufs_top.proofs.PutTexts.{puts_both, puts_cut, puts_as, field_in_two}
-use Rattle.lufs_top.proofs.report.put_field.Goals as goal
+use Rattle.endings.proofs.PutTexts.{puts_both, puts_cut, puts_as, field_in_two}
+use Rattle.endings.proofs.verdict.put_field.Goals as goal
 
 pub returns-in_err-put_both : goal.returns-in_err-put_both
 returns-in_err-put_both g c =

@@ -1,6 +1,6 @@
 use Rattle.std.proofs.Common.{[], ◌∷◌, ◌++◌}
-use Rattle.drive_command.proofs.PutTexts.{puts_both, puts_cut, puts_as, line_in_two}
-use Rattle.drive_command.proofs.put.put_line.Goals as goal
+use Rattle.endings.proofs.PutTexts.{puts_both, puts_cut, puts_as, line_in_two}
+use Rattle.endings.proofs.put.put_line.Goals as goal
 
 pub returns-in_err-put_both : goal.returns-in_err-put_both
 returns-in_err-put_both g c =

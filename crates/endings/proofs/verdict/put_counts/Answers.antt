@@ -1,8 +1,8 @@
 use Rattle.std.proofs.Common.{[], ◌∷◌, ◌++◌}
 use Rattle.std.specs.Prelude.{codes}
 use Rattle.volume_model.specs.Texts.{field}
-use Rattle.lufs_top.proofs.PutTexts.{puts_both, puts_first, puts_cut, puts_as, counts_in_four}
-use Rattle.lufs_top.proofs.report.put_counts.Goals as goal
+use Rattle.endings.proofs.PutTexts.{puts_both, puts_first, puts_cut, puts_as, counts_in_four}
+use Rattle.endings.proofs.verdict.put_counts.Goals as goal
 
 pub returns-in_err-put_field : goal.returns-in_err-put_field
 returns-in_err-put_field g c =

@@ -1,7 +1,7 @@
 use Rattle.std.proofs.Common.{◌≡◌, ℕ, List, [], ◌∷◌, ◌++◌, ap, ◌∙◌}
 use Rattle.std.specs.Fmt.{decimal}
-use Rattle.drive_command.proofs.PutTexts.{puts_both, puts_first, puts_cut, puts_as, line_in_three}
-use Rattle.drive_command.proofs.put.put_number.Goals as goal
+use Rattle.endings.proofs.PutTexts.{puts_both, puts_first, puts_cut, puts_as, line_in_three}
+use Rattle.endings.proofs.put.put_number.Goals as goal
 
 pub returns-in_err-put_both : goal.returns-in_err-put_both
 returns-in_err-put_both g c =

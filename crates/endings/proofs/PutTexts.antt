@@ -3,12 +3,14 @@ use Rattle.std.proofs.Common.{◌≡◌, ℕ, ◌+◌, List, [], ◌∷◌, ◌+
 use Rattle.std.specs.Prelude.{min, option_map, IsErr, codes}
 use Rattle.std.proofs.Math.Seq.{take-append-add}
 use Rattle.std.proofs.lemmas.List.{take-append-le, take_min}
+use Rattle.std.specs.Fmt.{decimal}
 use Rattle.lufs_base.specs.Causes.{counted}
+use Rattle.volume_model.specs.declared.finding.Counts.{Counts}
 use Rattle.volume_model.specs.declared.finding.Kind.{Kind}
-use Rattle.volume_model.specs.declared.finding.Verdict.TheVariants.{Finding}
-use Rattle.volume_model.specs.Texts.{verdict_text, word_of}
+use Rattle.volume_model.specs.declared.finding.Verdict.TheVariants.{Clean, Finding}
+use Rattle.volume_model.specs.Texts.{field, verdict_text, word_of}
 use Rattle.host_io.specs.Outside.{SinkTold, Puts}
-use Rattle.drive_command.specs.Ending.{named_line, counted_line}
+use Rattle.endings.specs.Lines.{named_line, counted_line}
 
 appended_twice : (a b : List ℕ) (held : Option (List ℕ)) → option_map (λ h. h ++ b) (option_map (λ h. h ++ a) held) ≡ option_map (λ h. h ++ (a ++ b)) held
 appended_twice a b None = refl
@@ -64,6 +66,20 @@ line_in_three words name number =
 -- words, a blank, a name in two parts, and the end of the line
 pub line_of_two : (words name suffix : List ℕ) → ((words ++ 32 ∷ []) ++ (name ++ suffix)) ++ 10 ∷ [] ≡ named_line words (name ++ suffix)
 line_of_two words name suffix = append_assoc (words ++ 32 ∷ []) (name ++ suffix) (10 ∷ []) ∙ append_assoc words (32 ∷ []) ((name ++ suffix) ++ 10 ∷ [])
+
+-- words, a blank and a number
+pub field_in_two : (words : List ℕ) (number : ℕ) → (words ++ 32 ∷ []) ++ decimal number ≡ field words number
+field_in_two words number = append_assoc words (32 ∷ []) (decimal number)
+
+-- the line of a sound volume: the counts, and the end of the line
+pub counts_in_four : (counts : Counts)
+    → ((field (codes "clean inodes") counts.inodes ++ field (codes " blocks") counts.blocks) ++ field (codes " free") counts.free) ++ 10 ∷ [] ≡ verdict_text (Clean counts)
+unfolding verdict_text
+counts_in_four counts =
+    let inodes = field (codes "clean inodes") counts.inodes in
+    let blocks = field (codes " blocks") counts.blocks in
+    let free = field (codes " free") counts.free in
+    append_assoc (inodes ++ blocks) free (10 ∷ []) ∙ append_assoc inodes blocks (free ++ 10 ∷ [])
 
 -- the line of a finding
 pub finding_line : (kind : Kind) (number : ℕ) → counted_line (codes "unsound") (word_of kind) number ≡ verdict_text (Finding kind number)
