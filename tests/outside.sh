@@ -87,6 +87,10 @@ ends 'scan below a file' 4 'disk fault volume/x' scan volume/x
 ends 'scan of an empty file' 6 'not a volume small' scan small
 ends 'check of an empty file' 6 'not a volume small' check small
 ends 'mkfs of an empty file' 10 'geometry sectors 0' mkfs small $numbers
+is 'then it is still empty' 0 "$(stat -c %s small)"
+cp volume short
+truncate -s 405503 short
+ends 'scan of a volume that is a byte short' 6 'not a volume short' scan short
 ends 'a number out of its range' 10 'geometry bpg 65' mkfs new 1 65 32 256
 is 'then no file is made' no "$([ -e new ] && echo yes || echo no)"
 cp volume bad

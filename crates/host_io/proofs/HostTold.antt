@@ -1,16 +1,23 @@
 -- What a host in memory tells after a name stands for something else.
-use Rattle.std.proofs.Common.{◌≡◌, Bool, true, false, cond, List, ℕ, Some, None, refl, ◌∙◌, ap, ◌*◌, arith}
+use Rattle.std.proofs.Common.{◌≡◌, Bool, true, false, cond, List, ℕ, Some, None, Result, Ok, Err, refl, ◌∙◌, ap, ◌*◌, arith}
 use Rattle.std.proofs.lemmas.List.{length-replicate}
-use Rattle.std.specs.Prelude.{bytes_eq}
+use Rattle.std.specs.Prelude.{bytes_eq, OnOk, OnErr}
 use Rattle.std.proofs.Math.Path.{fun_ext}
+use Rattle.lufs_base.specs.Causes.{counted}
 use Rattle.sector_disk.specs.Disk.{DiskTold, IsZeroDisk}
 use Rattle.sector_disk.specs.MemDisk.{State as DiskState, told_of as disk_told}
 use Rattle.host_io.specs.declared.host.Ask.{Ask}
+use Rattle.host_io.specs.declared.named.Named.{Named}
+use Rattle.host_io.specs.declared.host.HostError.{HostError}
+use Rattle.host_io.specs.declared.host.HostError.TheVariants.{Missing, Failed, Mem}
+use Rattle.host_io.specs.declared.host.AskKind.TheVariants.{TakeSource, TakeSink}
+use Rattle.host_io.specs.declared.host.AskAnswer.TheVariants as answers
 use Rattle.host_io.specs.MemSource.{State as SourceState, told_of as source_told}
 use Rattle.host_io.specs.MemSink.{State as SinkState, told_of as sink_told}
-use Rattle.host_io.specs.MemHost.{zeros_of, there_or_zeros}
+use Rattle.host_io.specs.MemHost.{zeros_of, there_or_zeros, asks_after, faults_after, absent_after}
 use Rattle.host_io.specs.Source.{SourceTold}
-use Rattle.host_io.specs.Outside.{Outside, SinkTold, StartsAs}
+use Rattle.host_io.specs.Named.{places_of}
+use Rattle.host_io.specs.Outside.{Outside, SinkTold, StartsAs, answer_of, after_ask}
 use Rattle.host_io.specs.Places.{Place, Places, nothing, here, lent, here_of, place_map, with_place}
 
 -- what stands there of what is told is told of what stands there
@@ -70,6 +77,32 @@ module _ (moment faults absent : ℕ) (asks listed : List Ask) (same : asks ≡ 
   outside_with-sink new old disks sources p is =
       ap (λ (a : List Ask). outside_with moment faults absent a disks sources (λ q. place_map sink_told (new q))) same
       ∙ ap (λ (k : Places SinkTold). outside_with moment faults absent listed disks sources k) (told_with_place sink_told new old name p is)
+
+-- What is told after an ask of which the answer is listed and counted.
+module _ {T : Type 0} (moment faults absent : ℕ) (asks : List Ask) (name : List ℕ) where
+  pub asked_source : (given : Result T HostError) (new old : List (Named SourceState)) (disks : Places DiskTold) (sinks : Places SinkTold)
+      → OnOk given (places_of new ≡ with_place (places_of old) name lent) → OnErr given (new ≡ old)
+      → outside_with moment (faults_after (answer_of given) faults) (absent_after (answer_of given) absent) (asks_after TakeSource name (answer_of given) asks) disks (λ q. place_map source_told (places_of new q)) sinks
+      ≡ after_ask TakeSource name (answer_of given) (outside_with moment faults absent asks disks (λ q. place_map source_told (places_of old q)) sinks)
+  asked_source (Ok source) new old disks sinks ok err = outside_with-source moment faults absent _ _ refl name (places_of new) (places_of old) disks sinks lent ok
+  asked_source (Err Missing) new old disks sinks ok err =
+      ap (λ (k : List (Named SourceState)). outside_with moment faults (counted absent) (asks_after TakeSource name (Some answers.Missing) asks) disks (λ q. place_map source_told (places_of k q)) sinks) err
+  asked_source (Err Failed) new old disks sinks ok err =
+      ap (λ (k : List (Named SourceState)). outside_with moment (counted faults) absent (asks_after TakeSource name (Some answers.Failed) asks) disks (λ q. place_map source_told (places_of k q)) sinks) err
+  asked_source (Err Mem) new old disks sinks ok err =
+      ap (λ (k : List (Named SourceState)). outside_with moment faults absent asks disks (λ q. place_map source_told (places_of k q)) sinks) err
+
+  pub asked_sink : (given : Result T HostError) (new old : List (Named SinkState)) (disks : Places DiskTold) (sources : Places SourceTold)
+      → OnOk given (places_of new ≡ with_place (places_of old) name lent) → OnErr given (new ≡ old)
+      → outside_with moment (faults_after (answer_of given) faults) (absent_after (answer_of given) absent) (asks_after TakeSink name (answer_of given) asks) disks sources (λ q. place_map sink_told (places_of new q))
+      ≡ after_ask TakeSink name (answer_of given) (outside_with moment faults absent asks disks sources (λ q. place_map sink_told (places_of old q)))
+  asked_sink (Ok sink) new old disks sources ok err = outside_with-sink moment faults absent _ _ refl name (places_of new) (places_of old) disks sources lent ok
+  asked_sink (Err Missing) new old disks sources ok err =
+      ap (λ (k : List (Named SinkState)). outside_with moment faults (counted absent) (asks_after TakeSink name (Some answers.Missing) asks) disks sources (λ q. place_map sink_told (places_of k q))) err
+  asked_sink (Err Failed) new old disks sources ok err =
+      ap (λ (k : List (Named SinkState)). outside_with moment (counted faults) absent (asks_after TakeSink name (Some answers.Failed) asks) disks sources (λ q. place_map sink_told (places_of k q))) err
+  asked_sink (Err Mem) new old disks sources ok err =
+      ap (λ (k : List (Named SinkState)). outside_with moment faults absent asks disks sources (λ q. place_map sink_told (places_of k q))) err
 
 zeros_told : (sectors : ℕ) → IsZeroDisk sectors (disk_told (zeros_of sectors))
 zeros_told sectors = record {

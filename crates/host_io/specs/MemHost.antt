@@ -1,10 +1,14 @@
 -- A host in memory, as its calls see it.
-use Rattle.std.specs.Prelude.{◌≡◌, ◌⊎◌, ◌∷◌, ℕ, ◌*◌, if◌then◌else◌, List, [], replicate, Option, Some, unwrap_or, Result, Err, bytes_eq}
+use Rattle.std.specs.Prelude.{◌≡◌, ◌⊎◌, ◌∷◌, ◌++◌, ℕ, ◌*◌, if◌then◌else◌, List, [], replicate, Option, Some, None, unwrap_or, Result, Err, bytes_eq}
 use Rattle.std.specs.List.{flat_map}
+use Rattle.lufs_base.specs.Causes.{counted}
 use Rattle.sector_disk.specs.MemDisk.{State as DiskState, new_state as new_disk, told_of as disk_told}
 use Rattle.host_io.specs.MemSource.{State as SourceState, told_of as source_told}
 use Rattle.host_io.specs.MemSink.{State as SinkState, told_of as sink_told}
 use Rattle.host_io.specs.declared.host.Ask.{Ask}
+use Rattle.host_io.specs.declared.host.AskKind.{AskKind}
+use Rattle.host_io.specs.declared.host.AskAnswer.{AskAnswer}
+use Rattle.host_io.specs.declared.host.AskAnswer.TheVariants as answers
 use Rattle.host_io.specs.declared.host.HostError.{HostError}
 use Rattle.host_io.specs.declared.host.HostError.TheVariants.{Failed, Mem}
 use Rattle.host_io.specs.declared.mem_host.NamedCall.{NamedCall}
@@ -53,6 +57,24 @@ call_of name call = if bytes_eq call.name name then call.k ∷ [] else []
 -- the calls of what has this name that are to fail, by their number
 abbrev pub calls_to_fail : List NamedCall → List ℕ → List ℕ
 calls_to_fail calls name = flat_map (call_of name) calls
+
+-- the asks after one with this answer; the same where memory ran out
+abbrev pub asks_after : AskKind → List ℕ → Option AskAnswer → List Ask → List Ask
+asks_after kind name None asks = asks
+asks_after kind name (Some answer) asks = asks ++ record { kind = kind; name = name; answer = answer } ∷ []
+
+-- how many asks failed, and how many were of what isn't there, after one with this answer
+abbrev pub faults_after : Option AskAnswer → ℕ → ℕ
+faults_after (Some answers.Failed) faults = counted faults
+faults_after (Some answers.Missing) faults = faults
+faults_after (Some answers.Given) faults = faults
+faults_after None faults = faults
+
+abbrev pub absent_after : Option AskAnswer → ℕ → ℕ
+absent_after (Some answers.Missing) absent = counted absent
+absent_after (Some answers.Failed) absent = absent
+absent_after (Some answers.Given) absent = absent
+absent_after None absent = absent
 
 -- what it tells of the outside
 abbrev pub outside_of : State → Outside

@@ -10,7 +10,7 @@ use lufs_base::{Bytes, Mem};
 use sector_disk::Disk;
 
 /// Why a host gave nothing.
-#[derive(Clone, Copy, Debug, PartialEq, Eq)]
+#[derive(Clone, Copy, PartialEq, Eq)]
 pub enum HostError {
     /// There is nothing of that name.
     Missing,
@@ -31,7 +31,7 @@ impl From<Mem> for HostError {
 }
 
 /// What a host was asked for.
-#[derive(Clone, Copy, Debug, PartialEq, Eq)]
+#[derive(Clone, Copy, PartialEq, Eq)]
 pub enum AskKind {
     TakeDisk,
     MakeDisk,
@@ -40,7 +40,7 @@ pub enum AskKind {
 }
 
 /// What the host answered. An ask for which memory ran out isn't listed.
-#[derive(Clone, Copy, Debug, PartialEq, Eq)]
+#[derive(Clone, Copy, PartialEq, Eq)]
 pub enum AskAnswer {
     Given,
     Missing,
@@ -48,7 +48,7 @@ pub enum AskAnswer {
 }
 
 /// One ask of a host.
-#[derive(Debug, Drop)]
+#[derive(Drop)]
 pub struct Ask {
     pub kind: AskKind,
     pub name: Bytes,

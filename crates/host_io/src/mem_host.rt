@@ -1,11 +1,11 @@
 //! A host in memory for tests and examples, whose calls fail where a test names them.
-ghost use Rattle.std.specs.Prelude.{◌≡◌, ◌≢◌, ◌<◌, ◌∷◌, ◌++◌, [], OnOk, OnErr, Contains, IfOk, Some, None, Err, IsSome, vec_len, vec_capacity, is_ok, if◌then◌else◌};
+ghost use Rattle.std.specs.Prelude.{◌≡◌, ◌≢◌, ◌<◌, ◌∷◌, ◌++◌, [], OnOk, OnErr, Contains, IfOk, Some, None, Err, IsSome, IsTrue, vec_len, vec_capacity, is_ok, if◌then◌else◌};
 ghost use Rattle.std.specs.Option.{option_copied, option_map, ForSome};
 ghost use Rattle.lufs_base.specs.Causes.{counted};
 ghost use Rattle.sector_disk.specs.MemDisk.{told_of as disk_told};
 ghost use Rattle.host_io.specs.MemSink.{new_state as new_sink, told_of as sink_told};
 ghost use Rattle.host_io.specs.MemSource.{new_state as new_source, told_of as source_told, set_to_fail};
-ghost use Rattle.host_io.specs.MemHost.{new_state, calls_to_fail, zeros_of, there_or_zeros, outside_of, FailedOrMem};
+ghost use Rattle.host_io.specs.MemHost.{new_state, call_of, calls_to_fail, asks_after, faults_after, absent_after, zeros_of, there_or_zeros, outside_of, FailedOrMem};
 ghost use Rattle.host_io.specs.Named.{places_of};
 ghost use Rattle.host_io.specs.Places.{here, lent, here_of, with_place};
 ghost use Rattle.host_io.specs.Outside.{disk_of, source_of, answer_of, after_ask, with_disk, with_sink, IsLentDisk, IsLentSink, StartsAs, empty_sink};
@@ -21,7 +21,7 @@ use std::alloc::Global;
 use std::marker::Model;
 
 // The k-th call of what has this name, which is to fail.
-#[derive(Debug, Drop)]
+#[derive(Drop)]
 struct NamedCall {
     name: Bytes,
     k: u64,
@@ -29,7 +29,7 @@ struct NamedCall {
 
 /// A host in memory, with a time, disks, sources and sinks by name, and the calls that are to fail. It tells
 /// everything.
-#[derive(Debug, Drop)]
+#[derive(Drop)]
 pub struct MemHost {
     alloc: Global,
     moment: u64,
@@ -114,15 +114,59 @@ fn list(asks: &mut Vec<Ask>, kind: AskKind, name: Bytes, answer: AskAnswer)
     asks.push_reserved(Ask { kind, name, answer });
 }
 
+// What a host answers an ask with, unless memory ran out.
+fn answer_of<T>(given: &Result<T, HostError>) -> Option<AskAnswer>
+    ensures { result ≡ answer_of given.now }
+{
+    match given {
+        Ok(_) => Some(AskAnswer::Given),
+        Err(HostError::Missing) => Some(AskAnswer::Missing),
+        Err(HostError::Failed) => Some(AskAnswer::Failed),
+        Err(HostError::Mem) => None,
+    }
+}
+
+// Lists an ask with its answer, for which there is room, and counts one that wasn't given.
+fn note(
+    asks: &mut Vec<Ask>,
+    faults: &mut u64,
+    absent: &mut u64,
+    kind: AskKind,
+    name: Bytes,
+    answer: Option<AskAnswer>,
+)
+    requires { vec_len asks.old < vec_capacity asks.old }
+    ensures asks { asks.new.items ≡ asks_after kind name answer asks.old.items }
+    ensures faults { faults.new ≡ faults_after answer faults.old }
+    ensures absent { absent.new ≡ absent_after answer absent.old }
+{
+    match answer {
+        Some(AskAnswer::Missing) => *absent = absent.saturating_add(1),
+        Some(AskAnswer::Failed) => *faults = faults.saturating_add(1),
+        Some(AskAnswer::Given) | None => {}
+    }
+    if let Some(answer) = answer {
+        list(asks, kind, name, answer);
+    }
+}
+
+// Lists the number of a call that is to fail, if it is one of what has that name.
+fn push_call(fails: &mut Vec<u64>, call: &NamedCall, name: &str) -> Result<(), Mem>
+    ensures { OnOk result (fails.new.items ≡ fails.old.items ++ call_of name.now call.now) }
+{
+    if call.name.as_slice() == name.as_bytes() {
+        fails.push(call.k)?;
+    }
+    Ok(())
+}
+
 // The numbers of the calls that are to fail, of what has that name.
 fn calls_to_fail(alloc: Global, calls: &[NamedCall], name: &str) -> Result<Vec<u64>, Mem>
     ensures { IfOk result (λ fails. fails.items ≡ calls_to_fail calls.now name.now) }
 {
     let mut fails = Vec::new(alloc);
     for call in calls {
-        if call.name.as_slice() == name.as_bytes() {
-            fails.push(call.k)?;
-        }
+        push_call(&mut fails, call, name)?;
     }
     Ok(fails)
 }
@@ -134,6 +178,56 @@ fn add_call(alloc: Global, calls: &mut Vec<NamedCall>, name: &str, k: u64) -> Re
     let name = Bytes::from_slice(alloc, name.as_bytes())?;
     calls.push(NamedCall { name, k })?;
     Ok(())
+}
+
+// Lends the source of that name, whose calls of that name fail, unless the take itself is to fail. An `Err` changes
+// nothing.
+fn lend_source(
+    alloc: Global,
+    sources: &mut Vec<Named<MemSource>>,
+    calls: &[NamedCall],
+    is_to_fail: bool,
+    name: &str,
+) -> Result<MemSource, HostError>
+    ensures named { IsTrue is_to_fail → FailedOrMem result }
+    ensures only_named { result ≡ Err Failed → IsTrue is_to_fail }
+    ensures value { IfOk result (λ source. option_map (set_to_fail (calls_to_fail calls.now name.now)) (here_of (places_of sources.old.items name.now)) ≡ Some source) }
+    ensures missing { result ≡ Err Missing → here_of (places_of sources.old.items name.now) ≡ None }
+    ensures ok { OnOk result (places_of sources.new.items ≡ with_place (places_of sources.old.items) name.now lent) }
+    ensures err { OnErr result (sources.new.items ≡ sources.old.items) }
+{
+    if is_to_fail {
+        return Err(HostError::Failed);
+    }
+    let fails = calls_to_fail(alloc, calls, name)?;
+    match lend(sources, name.as_bytes()) {
+        Some(source) => Ok(source.failing(fails)),
+        None => Err(HostError::Missing),
+    }
+}
+
+// Lends a new sink under that name, whose calls of that name fail, unless the take itself is to fail. An `Err` changes
+// nothing.
+fn lend_sink(
+    alloc: Global,
+    sinks: &mut Vec<Named<MemSink>>,
+    calls: &[NamedCall],
+    is_to_fail: bool,
+    name: &str,
+) -> Result<MemSink, HostError>
+    ensures named { IsTrue is_to_fail → FailedOrMem result }
+    ensures only_named { result ≡ Err Failed → IsTrue is_to_fail }
+    ensures made { IfOk result (λ sink. sink ≡ new_sink (calls_to_fail calls.now name.now)) }
+    ensures not_missing { result ≢ Err Missing }
+    ensures ok { OnOk result (places_of sinks.new.items ≡ with_place (places_of sinks.old.items) name.now lent) }
+    ensures err { OnErr result (sinks.new.items ≡ sinks.old.items) }
+{
+    if is_to_fail {
+        return Err(HostError::Failed);
+    }
+    let sink = MemSink::new(calls_to_fail(alloc, calls, name)?);
+    lend_new(alloc, sinks, name.as_bytes())?;
+    Ok(sink)
 }
 
 impl MemHost {
@@ -308,24 +402,23 @@ impl Host for MemHost {
     {
         self.takes = self.takes.saturating_add(1);
         let kept = make_room(self.alloc, &mut self.asks, name)?;
-        let fails = calls_to_fail(self.alloc, &self.take_fails, name)?;
-        if is_named(&self.fails, self.takes) {
-            self.faults = self.faults.saturating_add(1);
-            list(&mut self.asks, AskKind::TakeSource, kept, AskAnswer::Failed);
-            return Err(HostError::Failed);
-        }
-        let Some(source) = lend(&mut self.sources, name.as_bytes()) else {
-            self.absent = self.absent.saturating_add(1);
-            list(
-                &mut self.asks,
-                AskKind::TakeSource,
-                kept,
-                AskAnswer::Missing,
-            );
-            return Err(HostError::Missing);
-        };
-        list(&mut self.asks, AskKind::TakeSource, kept, AskAnswer::Given);
-        Ok(source.failing(fails))
+        let is_to_fail = is_named(&self.fails, self.takes);
+        let given = lend_source(
+            self.alloc,
+            &mut self.sources,
+            &self.take_fails,
+            is_to_fail,
+            name,
+        );
+        note(
+            &mut self.asks,
+            &mut self.faults,
+            &mut self.absent,
+            AskKind::TakeSource,
+            kept,
+            answer_of(&given),
+        );
+        given
     }
 
     /// Fails exactly where the take was named.
@@ -339,15 +432,23 @@ impl Host for MemHost {
     {
         self.takes = self.takes.saturating_add(1);
         let kept = make_room(self.alloc, &mut self.asks, name)?;
-        if is_named(&self.fails, self.takes) {
-            self.faults = self.faults.saturating_add(1);
-            list(&mut self.asks, AskKind::TakeSink, kept, AskAnswer::Failed);
-            return Err(HostError::Failed);
-        }
-        let sink = MemSink::new(calls_to_fail(self.alloc, &self.put_fails, name)?);
-        lend_new(self.alloc, &mut self.sinks, name.as_bytes())?;
-        list(&mut self.asks, AskKind::TakeSink, kept, AskAnswer::Given);
-        Ok(sink)
+        let is_to_fail = is_named(&self.fails, self.takes);
+        let given = lend_sink(
+            self.alloc,
+            &mut self.sinks,
+            &self.put_fails,
+            is_to_fail,
+            name,
+        );
+        note(
+            &mut self.asks,
+            &mut self.faults,
+            &mut self.absent,
+            AskKind::TakeSink,
+            kept,
+            answer_of(&given),
+        );
+        given
     }
 
     fn give_sink(&mut self, name: &str, sink: MemSink)

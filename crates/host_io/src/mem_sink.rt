@@ -8,7 +8,7 @@ use crate::{Sink, SinkFault};
 use std::marker::Model;
 
 /// A sink in memory. A put fails where a test named it, or where memory runs out.
-#[derive(Debug, Drop)]
+#[derive(Drop)]
 pub struct MemSink {
     bytes: Vec<u8>,
     fails: Vec<u64>,

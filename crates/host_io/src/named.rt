@@ -9,7 +9,7 @@ use std::alloc::Global;
 use std::mem;
 
 /// What a name stands for; nothing while it is lent.
-#[derive(Debug, Drop)]
+#[derive(Drop)]
 pub(crate) struct Named<T> {
     pub(crate) name: Bytes,
     pub(crate) held: Option<T>,

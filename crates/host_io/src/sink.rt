@@ -3,7 +3,7 @@ ghost use Rattle.std.specs.Prelude.{◌≡◌};
 ghost use Rattle.host_io.specs.Outside.{SinkTold, Puts};
 
 /// A put failed. The sink's count of faults says that it did.
-#[derive(Clone, Copy, Debug, PartialEq, Eq)]
+#[derive(Clone, Copy, PartialEq, Eq)]
 pub struct SinkFault;
 
 /// Takes bytes, one after the other (`docs/DEFINITIONS.md`, "What a host, a source and a sink tell").

@@ -3,7 +3,7 @@ ghost use Rattle.std.specs.Prelude.{◌≡◌, ◌<◌, length};
 ghost use Rattle.host_io.specs.Source.{SourceTold, Takes};
 
 /// A take failed. The source's count of faults says that it did.
-#[derive(Clone, Copy, Debug, PartialEq, Eq)]
+#[derive(Clone, Copy, PartialEq, Eq)]
 pub struct SourceFault;
 
 /// Gives bytes, one after the other (`docs/DEFINITIONS.md`, "What a host, a source and a sink tell").

@@ -10,7 +10,7 @@ use std::alloc::Global;
 const PIECE: usize = 4096;
 
 /// Why a source wasn't read whole.
-#[derive(Clone, Copy, Debug, PartialEq, Eq)]
+#[derive(Clone, Copy, PartialEq, Eq)]
 pub enum ReadError {
     /// A take failed.
     Fault,

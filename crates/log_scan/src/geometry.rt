@@ -11,7 +11,7 @@ use sector_disk::Disk;
 use ufs_super::read_super;
 
 /// Why a disk gives no geometry.
-#[derive(Clone, Copy, Debug, PartialEq, Eq)]
+#[derive(Clone, Copy, PartialEq, Eq)]
 pub enum GeometryError {
     /// The read of the superblock failed.
     Disk,

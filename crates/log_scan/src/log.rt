@@ -18,7 +18,7 @@ use sector_disk::Disk;
 use std::alloc::{AllocError, Global};
 
 /// Why a scan told no log.
-#[derive(Clone, Copy, Debug, PartialEq, Eq)]
+#[derive(Clone, Copy, PartialEq, Eq)]
 pub enum ScanError {
     /// A read of the disk failed.
     Disk,

@@ -44,7 +44,7 @@ fn read_to_front<D: Disk>(
 const PIECE: u32 = 128;
 
 /// The sectors of the ring that were read last. The ring is numbered from its head on.
-#[derive(Debug, Drop)]
+#[derive(Drop)]
 pub(crate) struct Piece {
     first: u32,
     count: u32,

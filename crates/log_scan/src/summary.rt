@@ -6,7 +6,7 @@ use std::alloc::Global;
 use std::marker::Model;
 
 /// A committed transaction of the log, without its deltas.
-#[derive(Clone, Copy, Debug, PartialEq, Eq)]
+#[derive(Clone, Copy, PartialEq, Eq)]
 pub struct TxSummary {
     pub tid: u32,
     /// The ring place of its first sector.
@@ -20,7 +20,7 @@ pub struct TxSummary {
 }
 
 /// Summaries of transactions in the order of the log.
-#[derive(Debug, Drop)]
+#[derive(Drop)]
 pub struct TxSummaries {
     txs: Vec<TxSummary>,
 }

@@ -1,9 +1,8 @@
 //! Logs of each kind, cut, wrapped and largest, read and listed.
-use crate::{GeometryError, ScanError, list, read_geometry, scan};
+use crate::{GeometryError, ScanError, Tx, TxSummary, list, read_geometry, scan};
 use lufs_base::{Geometry, Mem, put_u32};
 use sector_disk::{Disk, Fail, MemDisk};
 use std::alloc::Global;
-use std::test::Fail as TestFail;
 
 /// A word of 32 bits at a byte of a sector of the ring.
 type Word = (u32, u32, u32);
@@ -48,13 +47,66 @@ const WRAPPED: [Word; 15] = [
     (1, 508, 3),
 ];
 
-/// What a scan found of the first transaction.
-#[derive(Clone, Copy, Debug, PartialEq, Eq)]
+/// What was found of a transaction.
+#[derive(Clone, Copy, PartialEq, Eq)]
 struct Found {
     tid: u32,
     first: u32,
     sectors: u32,
     deltas: usize,
+}
+
+fn scanned(tx: &Tx) -> Found {
+    Found {
+        tid: tx.tid,
+        first: tx.first,
+        sectors: tx.sectors,
+        deltas: tx.deltas.len(),
+    }
+}
+
+fn listed(tx: &TxSummary) -> Found {
+    Found {
+        tid: tx.tid,
+        first: tx.first,
+        sectors: tx.sectors,
+        deltas: tx.deltas as usize,
+    }
+}
+
+/// The first transaction that is found, if there is one.
+type Ending = Result<Option<Found>, ScanError>;
+
+const NONE: Ending = Ok(None);
+
+const ROOT_FOUND: Ending = Ok(Some(Found {
+    tid: 1,
+    first: 0,
+    sectors: 1,
+    deltas: 1,
+}));
+
+const WRAPPED_FOUND: Ending = Ok(Some(Found {
+    tid: 1,
+    first: 254,
+    sectors: 3,
+    deltas: 2,
+}));
+
+const BAD: Ending = Err(ScanError::BadLog { tid: 1, place: 0 });
+
+const DISK: Ending = Err(ScanError::Disk);
+
+/// Nothing writes, so no call fails.
+const NO_FAIL: Fail = Fail::Write(1);
+
+/// A log of the smallest volume: its head, the words of its ring, one more word, and which call fails.
+#[derive(Clone, Copy)]
+struct Log {
+    head: u32,
+    words: &'static [Word],
+    change: Word,
+    fail: Fail,
 }
 
 // Writes a word, where it fits.
@@ -70,196 +122,139 @@ fn put_all(bytes: &mut [u8], words: &[(usize, u32)]) {
     }
 }
 
-// Writes a log of the smallest volume, with one more word in its ring.
-fn write_log(image: &mut [u8], head: u32, words: &[Word], change: Word) {
+// Writes a word of the ring.
+fn put_in_ring(image: &mut [u8], word: Word) {
+    let (place, at, word) = word;
+    put(image, 512 * (25 + place as usize) + at as usize, word);
+}
+
+fn write_log(image: &mut [u8], log: &Log) {
     put_all(
         image,
         &[
             (24 * 512, 0x4C55_4653),
             (24 * 512 + 4, 3),
-            (24 * 512 + 8, head),
+            (24 * 512 + 8, log.head),
             (24 * 512 + 12, 1),
         ],
     );
-    for (place, at, word) in words {
-        put(image, 512 * (25 + *place as usize) + *at as usize, *word);
+    for word in log.words {
+        put_in_ring(image, *word);
     }
-    let (place, at, word) = change;
-    put(image, 512 * (25 + place as usize) + at as usize, word);
+    put_in_ring(image, log.change);
 }
 
-// A disk with that log, whose named calls fail.
-fn disk_with(
-    alloc: Global,
-    head: u32,
-    words: &[Word],
-    change: Word,
-    fails: &[Fail],
-) -> Result<MemDisk, ScanError> {
-    let mut image = vec![in alloc; 0u8; 792 * 512]?;
-    write_log(&mut image, head, words, change);
-    let fails = Vec::from_slice(alloc, fails)?;
+// A disk of whole sectors, whose named call fails.
+fn disk_of(alloc: Global, image: Vec<u8>, fail: Fail) -> Result<MemDisk, Mem> {
     if image.len() % 512 != 0 {
-        return Err(ScanError::Mem);
+        return Err(Mem);
     }
-    Ok(MemDisk::new(image, fails))
+    Ok(MemDisk::new(image, Vec::from_slice(alloc, &[fail])?))
 }
 
-// What a scan finds of that log, where these calls fail.
-fn find(
-    alloc: Global,
-    head: u32,
-    words: &[Word],
-    change: Word,
-    fails: &[Fail],
-) -> Result<Option<Found>, ScanError> {
-    let mut disk = disk_with(alloc, head, words, change, fails)?;
+fn disk_with(alloc: Global, log: &Log) -> Result<MemDisk, Mem> {
+    let mut image = vec![in alloc; 0u8; 792 * 512]?;
+    write_log(&mut image, log);
+    disk_of(alloc, image, log.fail)
+}
+
+fn first_scanned(alloc: Global, disk: &mut MemDisk) -> Ending {
     if disk.sectors() < 8 * u64::from(SMALLEST.total()) {
         return Err(ScanError::Mem);
     }
-    let (_, txs) = scan(alloc, &mut disk, &SMALLEST)?;
-    Ok(
-        txs.as_slice().first().map(|tx| Found {
-            tid: tx.tid,
-            first: tx.first,
-            sectors: tx.sectors,
-            deltas: tx.deltas.len(),
-        }),
-    )
+    let (_, txs) = scan(alloc, disk, &SMALLEST)?;
+    Ok(txs.as_slice().first().map(scanned))
 }
 
-// What a list finds of it.
-fn find_listed(
-    alloc: Global,
-    head: u32,
-    words: &[Word],
-    change: Word,
-    fails: &[Fail],
-) -> Result<Option<Found>, ScanError> {
-    let mut disk = disk_with(alloc, head, words, change, fails)?;
+fn first_listed(alloc: Global, disk: &mut MemDisk) -> Ending {
     if disk.sectors() < 8 * u64::from(SMALLEST.total()) {
         return Err(ScanError::Mem);
     }
-    let (_, txs) = list(alloc, &mut disk, &SMALLEST)?;
-    Ok(
-        txs.as_slice().first().map(|tx| Found {
-            tid: tx.tid,
-            first: tx.first,
-            sectors: tx.sectors,
-            deltas: tx.deltas as usize,
-        }),
-    )
+    let (_, txs) = list(alloc, disk, &SMALLEST)?;
+    Ok(txs.as_slice().first().map(listed))
 }
+
+fn is_scanned_so(alloc: Global, log: &Log, want: Ending) -> Result<bool, Mem> {
+    let mut disk = disk_with(alloc, log)?;
+    Ok(first_scanned(alloc, &mut disk) == want)
+}
+
+fn is_listed_so(alloc: Global, log: &Log, want: Ending) -> Result<bool, Mem> {
+    let mut disk = disk_with(alloc, log)?;
+    Ok(first_listed(alloc, &mut disk) == want)
+}
+
+// Whether a scan and a list of that log both end so.
+fn ends_so(alloc: Global, log: &Log, want: Ending) -> bool {
+    is_scanned_so(alloc, log, want).unwrap_or(false)
+        && is_listed_so(alloc, log, want).unwrap_or(false)
+}
+
+const OF_ONE_SECTOR: [(&str, Word, Ending); 7] = [
+    ("whole", (0, 0, 0), ROOT_FOUND),
+    ("empty", (0, 504, 0), NONE),
+    ("type 9", (0, 12, 9), BAD),
+    ("other epoch", (0, 508, 2), NONE),
+    ("commit of another number", (0, 148, 2), BAD),
+    ("commit of another count", (0, 152, 2), BAD),
+    ("byte after the commit", (0, 160, 1), BAD),
+];
 
 #[test]
 fn logs_of_one_sector(rt: HostRuntime) {
-    let found = Found {
-        tid: 1,
-        first: 0,
-        sectors: 1,
-        deltas: 1,
-    };
-    let bad = ScanError::BadLog { tid: 1, place: 0 };
-    for (what, change, want) in [
-        ("whole", (0, 0, 0), Ok(Some(found))),
-        ("empty", (0, 504, 0), Ok(None)),
-        ("type 9", (0, 12, 9), Err(bad)),
-        ("other epoch", (0, 508, 2), Ok(None)),
-        ("commit of another number", (0, 148, 2), Err(bad)),
-        ("commit of another count", (0, 152, 2), Err(bad)),
-        ("byte after the commit", (0, 160, 1), Err(bad)),
-    ] {
-        assert_eq!(rt; find(rt.alloc(), 0, &ROOT, change, &[]), want, "{what}");
-        assert_eq!(rt;
-            find_listed(rt.alloc(), 0, &ROOT, change, &[]),
-            want,
-            "{what}, listed"
-        );
+    for (what, change, want) in OF_ONE_SECTOR {
+        let log = Log {
+            head: 0,
+            words: &ROOT,
+            change,
+            fail: NO_FAIL,
+        };
+        assert!(rt; ends_so(rt.alloc(), &log, want), "{what}");
     }
 }
+
+const WHOLE: Word = (254, 0, 0);
+
+const THAT_WRAP: [(&str, Word, Fail, Ending); 5] = [
+    ("whole", WHOLE, NO_FAIL, WRAPPED_FOUND),
+    ("second sector missing", (0, 504, 0), NO_FAIL, NONE),
+    ("header unread", WHOLE, Fail::Read(1), DISK),
+    ("ring unread from its head", WHOLE, Fail::Read(2), DISK),
+    ("ring unread up to its head", WHOLE, Fail::Read(3), DISK),
+];
 
 #[test]
 fn logs_that_wrap(rt: HostRuntime) {
-    let found = Found {
-        tid: 1,
-        first: 254,
-        sectors: 3,
-        deltas: 2,
-    };
-    let whole = (254, 0, 0);
-    for (what, change, fails, want) in [
-        ("whole", whole, [Fail::Write(1)], Ok(Some(found))),
-        (
-            "second sector missing",
-            (0, 504, 0),
-            [Fail::Write(1)],
-            Ok(None),
-        ),
-        (
-            "header unread",
-            whole,
-            [Fail::Read(1)],
-            Err(ScanError::Disk),
-        ),
-        (
-            "ring unread from its head",
-            whole,
-            [Fail::Read(2)],
-            Err(ScanError::Disk),
-        ),
-        (
-            "ring unread up to its head",
-            whole,
-            [Fail::Read(3)],
-            Err(ScanError::Disk),
-        ),
-    ] {
-        assert_eq!(rt;
-            find(rt.alloc(), 254, &WRAPPED, change, &fails),
-            want,
-            "{what}"
-        );
-        assert_eq!(rt;
-            find_listed(rt.alloc(), 254, &WRAPPED, change, &fails),
-            want,
-            "{what}, listed"
-        );
+    for (what, change, fail, want) in THAT_WRAP {
+        let log = Log {
+            head: 254,
+            words: &WRAPPED,
+            change,
+            fail,
+        };
+        assert!(rt; ends_so(rt.alloc(), &log, want), "{what}");
     }
 }
 
+/// One read for the header and one for a piece, and where the log goes on past the ring's last place one more.
+const READS: [(&str, u32, &[Word], u64, Ending); 5] = [
+    ("a piece", 0, &[], 2, DISK),
+    ("no more than that", 0, &[], 3, NONE),
+    ("an empty log inside", 100, &[], 3, NONE),
+    ("both ends", 254, &WRAPPED, 3, DISK),
+    ("no more than those", 254, &WRAPPED, 4, WRAPPED_FOUND),
+];
+
 #[test]
 fn reads_of_a_log(rt: HostRuntime) {
-    let disk = Err(ScanError::Disk);
-    let found = Some(Found {
-        tid: 1,
-        first: 254,
-        sectors: 3,
-        deltas: 2,
-    });
-    // One read for the header and one for a piece, and where the log goes on past the ring's last place one more.
-    for (what, head, words, fail, want) in [
-        ("a piece", 0, &[][..], Fail::Read(2), disk),
-        ("no more than that", 0, &[], Fail::Read(3), Ok(None)),
-        ("an empty log inside", 100, &[], Fail::Read(3), Ok(None)),
-        ("both ends", 254, &WRAPPED, Fail::Read(3), disk),
-        (
-            "no more than those",
-            254,
-            &WRAPPED,
-            Fail::Read(4),
-            Ok(found),
-        ),
-    ] {
-        assert_eq!(rt;
-            find(rt.alloc(), head, words, (0, 0, 0), &[fail]),
-            want,
-            "{what}"
-        );
-        assert_eq!(rt;
-            find_listed(rt.alloc(), head, words, (0, 0, 0), &[fail]),
-            want,
-            "{what}, listed"
-        );
+    for (what, head, words, read, want) in READS {
+        let log = Log {
+            head,
+            words,
+            change: (0, 0, 0),
+            fail: Fail::Read(read),
+        };
+        assert!(rt; ends_so(rt.alloc(), &log, want), "{what}");
     }
 }
 
@@ -336,123 +331,120 @@ fn volume(alloc: Global, numbers: [u32; 4], filling: &Filling) -> Result<MemDisk
     for t in 0..filling.txs {
         put_tx(&mut image, filling, t);
     }
-    if image.len() % 512 != 0 {
-        return Err(Mem);
-    }
-    Ok(MemDisk::new(image, Vec::new(alloc)))
+    disk_of(alloc, image, NO_FAIL)
 }
 
 // How many transactions a list finds of that volume, and the last of them.
-fn last_listed(
-    alloc: Global,
-    numbers: [u32; 4],
-    filling: &Filling,
-) -> Result<(usize, Option<Found>), TestFail> {
-    let mut disk = volume(alloc, numbers, filling)?;
-    let g = read_geometry(&mut disk).map_err(|_| "no volume")?;
-    let (_, txs) = list(alloc, &mut disk, &g).map_err(|_| "no log")?;
-    let last = txs.as_slice().last().map(|tx| Found {
-        tid: tx.tid,
-        first: tx.first,
-        sectors: tx.sectors,
-        deltas: tx.deltas as usize,
-    });
-    Ok((txs.len(), last))
+fn last_listed(alloc: Global, disk: &mut MemDisk) -> Result<(usize, Option<Found>), ScanError> {
+    let g = read_geometry(disk).map_err(|_| ScanError::Disk)?;
+    let (_, txs) = list(alloc, disk, &g)?;
+    Ok((txs.len(), txs.as_slice().last().map(listed)))
 }
 
 // How many transactions a scan finds of it, and the last of them.
-fn last_of(
+fn last_scanned(alloc: Global, disk: &mut MemDisk) -> Result<(usize, Option<Found>), ScanError> {
+    let g = read_geometry(disk).map_err(|_| ScanError::Disk)?;
+    let (_, txs) = scan(alloc, disk, &g)?;
+    Ok((txs.len(), txs.as_slice().last().map(scanned)))
+}
+
+// Whether a scan and a list of that volume both find all, the last of them at this place.
+fn is_found_full(
     alloc: Global,
     numbers: [u32; 4],
     filling: &Filling,
-) -> Result<(usize, Option<Found>), TestFail> {
-    let mut disk = volume(alloc, numbers, filling)?;
-    let g = read_geometry(&mut disk).map_err(|_| "no volume")?;
-    let (_, txs) = scan(alloc, &mut disk, &g).map_err(|_| "no log")?;
-    let last = txs.as_slice().last().map(|tx| Found {
-        tid: tx.tid,
-        first: tx.first,
-        sectors: tx.sectors,
-        deltas: tx.deltas.len(),
-    });
-    Ok((txs.len(), last))
-}
-
-#[test]
-fn largest_logs(rt: HostRuntime) -> Result<(), TestFail> {
-    let zeros = Filling {
-        txs: 1,
-        sectors: 32,
-        deltas: 1000,
-        kind: 5,
-        len: 4096,
-        bytes: 16,
-        home: 0x25000,
-        step: 4096,
-    };
-    let groups = Filling {
-        sectors: 55,
-        deltas: 64,
-        kind: 1,
-        len: 416,
-        bytes: 432,
-        home: 0x23000,
-        step: 0x40000,
-        ..zeros
-    };
-    let chunks = Filling {
-        sectors: 255,
-        deltas: 243,
-        kind: 3,
-        len: 512,
-        bytes: 528,
-        step: 512,
-        ..zeros
-    };
-    let commits = Filling {
-        txs: 65_535,
-        sectors: 1,
-        deltas: 0,
-        ..zeros
-    };
-    for (what, numbers, filling, place) in [
-        ("a run of 1,000 deltas", [1, 2048, 32, 256], zeros, 0),
-        ("64 groups", [64, 64, 32, 256], groups, 0),
-        ("a run that fills the ring", [1, 64, 32, 256], chunks, 0),
-        (
-            "the largest log, full",
-            [1, 64, 32, 65_536],
-            commits,
-            65_534,
-        ),
-    ] {
-        let last = Found {
+    place: u32,
+) -> Result<bool, Mem> {
+    let want = Ok((
+        filling.txs as usize,
+        Some(Found {
             tid: filling.txs,
             first: place,
             sectors: filling.sectors,
             deltas: filling.deltas as usize,
-        };
-        assert_eq!(rt;
-            last_of(rt.alloc(), numbers, &filling)?,
-            (filling.txs as usize, Some(last)),
-            "{what}"
-        );
-        assert_eq!(rt;
-            last_listed(rt.alloc(), numbers, &filling)?,
-            (filling.txs as usize, Some(last)),
-            "{what}, listed"
-        );
-    }
-    Ok(())
+        }),
+    ));
+    let mut disk = volume(alloc, numbers, filling)?;
+    Ok(last_scanned(alloc, &mut disk) == want && last_listed(alloc, &mut disk) == want)
 }
 
-// What is read of the superblock of the smallest volume, with one word changed, on a disk of so many sectors.
-fn geometry_read(
+const ZEROS: Filling = Filling {
+    txs: 1,
+    sectors: 32,
+    deltas: 1000,
+    kind: 5,
+    len: 4096,
+    bytes: 16,
+    home: 0x25000,
+    step: 4096,
+};
+
+const GROUPS: Filling = Filling {
+    txs: 1,
+    sectors: 55,
+    deltas: 64,
+    kind: 1,
+    len: 416,
+    bytes: 432,
+    home: 0x23000,
+    step: 0x40000,
+};
+
+const CHUNKS: Filling = Filling {
+    txs: 1,
+    sectors: 255,
+    deltas: 243,
+    kind: 3,
+    len: 512,
+    bytes: 528,
+    home: 0x25000,
+    step: 512,
+};
+
+const COMMITS: Filling = Filling {
+    txs: 65_535,
+    sectors: 1,
+    deltas: 0,
+    kind: 5,
+    len: 4096,
+    bytes: 16,
+    home: 0x25000,
+    step: 4096,
+};
+
+const LARGEST: [(&str, [u32; 4], Filling, u32); 4] = [
+    ("a run of 1,000 deltas", [1, 2048, 32, 256], ZEROS, 0),
+    ("64 groups", [64, 64, 32, 256], GROUPS, 0),
+    ("a run that fills the ring", [1, 64, 32, 256], CHUNKS, 0),
+    (
+        "the largest log, full",
+        [1, 64, 32, 65_536],
+        COMMITS,
+        65_534,
+    ),
+];
+
+#[test]
+fn largest_logs(rt: HostRuntime) {
+    for (what, numbers, filling, place) in LARGEST {
+        let is_full = is_found_full(rt.alloc(), numbers, &filling, place).unwrap_or(false);
+        assert!(rt; is_full, "{what}");
+    }
+}
+
+/// What is read of a superblock.
+type Read = Result<Geometry, GeometryError>;
+
+const NOT_VOLUME: Read = Err(GeometryError::NotVolume);
+
+// Whether this is read of the superblock of the smallest volume, with one word changed, on a disk of so many sectors.
+fn is_read_so(
     alloc: Global,
     sectors: u16,
     change: (u32, u32),
-    fail: Option<Fail>,
-) -> Result<Result<Geometry, GeometryError>, Mem> {
+    fail: Fail,
+    want: Read,
+) -> Result<bool, Mem> {
     let mut image = vec![in alloc; 0u8; 512 * sectors as usize]?;
     put_all(
         &mut image,
@@ -467,65 +459,36 @@ fn geometry_read(
             (8192 + change.0 as usize, change.1),
         ],
     );
-    if image.len() % 512 != 0 {
-        return Err(Mem);
-    }
-    let mut fails = Vec::new(alloc);
-    if let Some(fail) = fail {
-        fails.push(fail)?;
-    }
-    Ok(read_geometry(&mut MemDisk::new(image, fails)))
+    let mut disk = disk_of(alloc, image, fail)?;
+    Ok(read_geometry(&mut disk) == want)
 }
 
+const GEOMETRIES: [(&str, u16, (u32, u32), Fail, Read); 7] = [
+    ("smallest volume", 792, (24, 99), NO_FAIL, Ok(SMALLEST)),
+    ("other magic", 792, (0, 0x0001_1955), NO_FAIL, NOT_VOLUME),
+    (
+        "other number of blocks",
+        792,
+        (24, 100),
+        NO_FAIL,
+        NOT_VOLUME,
+    ),
+    ("a sector too few", 791, (24, 99), NO_FAIL, NOT_VOLUME),
+    ("no superblock", 16, (24, 99), NO_FAIL, NOT_VOLUME),
+    (
+        "unread",
+        792,
+        (24, 99),
+        Fail::Read(1),
+        Err(GeometryError::Disk),
+    ),
+    ("no more reads", 792, (24, 99), Fail::Read(2), Ok(SMALLEST)),
+];
+
 #[test]
-fn geometries(rt: HostRuntime) -> Result<(), TestFail> {
-    for (what, sectors, change, fails, want) in [
-        ("smallest volume", 792, (24, 99), None, Ok(SMALLEST)),
-        (
-            "other magic",
-            792,
-            (0, 0x0001_1955),
-            None,
-            Err(GeometryError::NotVolume),
-        ),
-        (
-            "other number of blocks",
-            792,
-            (24, 100),
-            None,
-            Err(GeometryError::NotVolume),
-        ),
-        (
-            "a sector too few",
-            791,
-            (24, 99),
-            None,
-            Err(GeometryError::NotVolume),
-        ),
-        (
-            "no superblock",
-            16,
-            (24, 99),
-            None,
-            Err(GeometryError::NotVolume),
-        ),
-        (
-            "unread",
-            792,
-            (24, 99),
-            Some(Fail::Read(1)),
-            Err(GeometryError::Disk),
-        ),
-        (
-            "no more reads",
-            792,
-            (24, 99),
-            Some(Fail::Read(2)),
-            Ok(SMALLEST),
-        ),
-    ] {
-        let read = geometry_read(rt.alloc(), sectors, change, fails)?;
-        assert_eq!(rt; read, want, "{what}");
+fn geometries(rt: HostRuntime) {
+    for (what, sectors, change, fail, want) in GEOMETRIES {
+        let is_so = is_read_so(rt.alloc(), sectors, change, fail, want).unwrap_or(false);
+        assert!(rt; is_so, "{what}");
     }
-    Ok(())
 }

@@ -13,8 +13,8 @@ use Rattle.sector_disk.specs.Disk.{DiskTold, IsUnwritten, HasMade, HasMadePartly
 use Rattle.sector_disk.specs.Continued.{GoesOnWith}
 
 -- the count of calls is one of 64 bits
-abbrev pub Fits : DiskTold → Type 0
-Fits told = told.calls < 2 ^ 64
+abbrev pub CanCount : DiskTold → Type 0
+CanCount told = told.calls < 2 ^ 64
 
 -- no others than the first of these calls went
 pub record HasBegun (calls : List DeviceCall) (old new : DiskTold) : Type 0 where
@@ -36,7 +36,7 @@ pub begun_of : {T E : Type 0} (result : Result T E) (calls : List DeviceCall) (o
 begun_of result calls old new makes = record { sectors = makes.sectors; tells = makes.tells; listed = makes.listed; count = makes.count }
 
 -- the count fits still
-pub fits_still : (calls : List DeviceCall) (old new : DiskTold) → HasMade calls old new → Fits new
+pub fits_still : (calls : List DeviceCall) (old new : DiskTold) → HasMade calls old new → CanCount new
 fits_still calls old new made = omega (arith, made.count)
 
 pub tells_still : (f : Image → Image) (before now : Option Image) → now ≡ option_map f before → is_some now ≡ is_some before
@@ -44,7 +44,7 @@ tells_still f None now same = ap is_some same
 tells_still f (Some image) now same = ap is_some same
 
 -- all calls that went are the first of themselves
-pub begun_all : (calls : List DeviceCall) (old new : DiskTold) → Fits old → HasMade calls old new → HasBegun calls old new
+pub begun_all : (calls : List DeviceCall) (old new : DiskTold) → CanCount old → HasMade calls old new → HasBegun calls old new
 begun_all calls old new fits made = record {
   sectors = made.sectors;
   tells = tells_still (λ (image : Image). image_after image calls) old.present new.present made.content;
@@ -52,7 +52,7 @@ begun_all calls old new fits made = record {
   count = omega (arith, made.count, fits);
 }
 
-pub makes_all : {T E : Type 0} {x : T} (calls : List DeviceCall) (old new : DiskTold) → Fits old → HasMade calls old new → Makes {E = E} calls (Ok x) old new
+pub makes_all : {T E : Type 0} {x : T} (calls : List DeviceCall) (old new : DiskTold) → CanCount old → HasMade calls old new → Makes {E = E} calls (Ok x) old new
 makes_all calls old new fits made =
     let begun = begun_all calls old new fits made in
     record { ok = made; sectors = begun.sectors; tells = begun.tells; listed = begun.listed; count = begun.count }
@@ -95,7 +95,7 @@ begun_more a b old new begun = record { sectors = begun.sectors; tells = begun.t
       )
     ]
 
-pub begun_then : (a b : List DeviceCall) (old mid new : DiskTold) → Fits old → HasMade a old mid → HasBegun b mid new → HasBegun (a ++ b) old new
+pub begun_then : (a b : List DeviceCall) (old mid new : DiskTold) → CanCount old → HasMade a old mid → HasBegun b mid new → HasBegun (a ++ b) old new
 begun_then a b old mid new fits made begun =
     let first = begun_all a old mid fits made in
     record {
@@ -112,7 +112,7 @@ begun_then a b old mid new fits made begun =
         ap (λ (calls : List DeviceCall). Some (record { opening = r.opening; calls = calls }))
         (append_assoc r.calls a (take begun.listed.0 b) ∙ ap (λ (calls : List DeviceCall). r.calls ++ calls) (sym (take-append-add a b begun.listed.0)))
 
-pub makes_then : {T E : Type 0} (result : Result T E) (a b : List DeviceCall) (old mid new : DiskTold) → Fits old → HasMade a old mid → Makes b result mid new → Makes (a ++ b) result old new
+pub makes_then : {T E : Type 0} (result : Result T E) (a b : List DeviceCall) (old mid new : DiskTold) → CanCount old → HasMade a old mid → Makes b result mid new → Makes (a ++ b) result old new
 makes_then (Ok x) a b old mid new fits made makes = makes_all (a ++ b) old new fits (made_then a b old mid new made makes.ok)
 makes_then (Err e) a b old mid new fits made makes = makes_some (Err e) (a ++ b) old new refl (begun_then a b old mid new fits made (begun_of (Err e) b mid new makes))
 
@@ -130,14 +130,14 @@ begun_none calls old new same = record {
 }
 
 -- one write, and one flush
-pub write_makes : {T E : Type 0} (result : Result T E) (first : ℕ) (bytes : List ℕ) (old new : DiskTold) → Fits old → OnOk result (HasMade (Write first bytes ∷ []) old new)
+pub write_makes : {T E : Type 0} (result : Result T E) (first : ℕ) (bytes : List ℕ) (old new : DiskTold) → CanCount old → OnOk result (HasMade (Write first bytes ∷ []) old new)
     → OnErr result (HasMadePartly first bytes old new ⊎ IsUnwritten old new) → Makes (Write first bytes ∷ []) result old new
 write_makes (Ok x) first bytes old new fits made failed = makes_all (Write first bytes ∷ []) old new fits made
 write_makes (Err e) first bytes old new fits made (inl partly) =
     record { ok = tt; sectors = partly.sectors; tells = partly.tells; listed = (1, partly.listed); count = omega (arith, partly.count, fits) }
 write_makes (Err e) first bytes old new fits made (inr same) = makes_some (Err e) (Write first bytes ∷ []) old new refl (begun_none (Write first bytes ∷ []) old new same)
 
-pub flush_makes : {T E : Type 0} (result : Result T E) (old new : DiskTold) → Fits old → OnOk result (HasMade (Flush ∷ []) old new)
+pub flush_makes : {T E : Type 0} (result : Result T E) (old new : DiskTold) → CanCount old → OnOk result (HasMade (Flush ∷ []) old new)
     → OnErr result (IsUnwritten old new) → Makes (Flush ∷ []) result old new
 flush_makes (Ok x) old new fits made failed = makes_all (Flush ∷ []) old new fits made
 flush_makes (Err e) old new fits made same = makes_some (Err e) (Flush ∷ []) old new refl (begun_none (Flush ∷ []) old new same)

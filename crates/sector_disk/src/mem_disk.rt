@@ -17,7 +17,7 @@ use std::marker::Model;
 use volume_model::DeviceCall;
 
 /// The k-th call of its kind, from 1, which is to fail.
-#[derive(Clone, Copy, Debug, PartialEq, Eq, Hash)]
+#[derive(Clone, Copy, Debug, PartialEq, Eq)]
 pub enum Fail {
     Read(u64),
     Write(u64),
@@ -25,7 +25,7 @@ pub enum Fail {
 }
 
 /// A disk in memory. A call fails where a test named it, and a write or a flush also where memory runs out.
-#[derive(Debug, Drop)]
+#[derive(Drop)]
 pub struct MemDisk {
     image: Vec<u8>,
     // None before the first listed call: until then the image is as it was.

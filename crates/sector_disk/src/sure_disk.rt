@@ -12,7 +12,7 @@ use std::marker::Model;
 
 /// A disk in memory that never fails and whose calls take no memory. It tells what it holds, and counts its calls
 /// without listing them.
-#[derive(Debug, Drop)]
+#[derive(Drop)]
 pub struct SureDisk {
     image: Vec<u8>,
     calls: u64,

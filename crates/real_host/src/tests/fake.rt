@@ -1,7 +1,7 @@
-//! A system of one file in one directory. It notes each call on it, and can cut each one short, and let
+//! A system of one file in one directory. It counts the calls on it, and can cut each one short, and let
 //! one of them fail.
-use std::alloc::{Allocator, Global};
-use std::cell::{Cell, RefCell};
+use std::alloc::Allocator;
+use std::cell::Cell;
 use std::fmt::Display;
 use std::fs::{Metadata, OpenFile, OpenOptions};
 use std::io;
@@ -10,26 +10,8 @@ use std::os::unix::fs::FileExt;
 use std::rt::{Clock, Files};
 use std::time::Duration;
 
-/// A call on the system, with its byte place and how many bytes it was for.
-#[derive(Clone, Copy, Debug, PartialEq, Eq)]
-pub(super) enum Call {
-    Look,
-    OpenToWrite,
-    OpenToRead,
-    Create,
-    Remove,
-    OpenDirectory,
-    SetLength(u64),
-    SeekEnd,
-    Read(u64, usize),
-    Write(u64, usize),
-    Sync,
-    SyncData,
-    SyncDirectory,
-    Append(usize),
-    Next(usize),
-    Print(usize),
-}
+/// The bytes that the file can have at most.
+pub(super) const ROOM: usize = 2048;
 
 /// What there is, and what was done to it.
 #[derive(Drop)]
@@ -38,53 +20,36 @@ pub(super) struct System {
     pub(super) name: &'static str,
     pub(super) directory: &'static str,
     pub(super) is_there: Cell<bool>,
-    pub(super) is_read_only: Cell<bool>,
-    pub(super) bytes: RefCell<Vec<u8>>,
-    pub(super) printed: RefCell<Vec<u8>>,
+    /// How long the file is, in bytes, and those bytes.
+    pub(super) length: Cell<u64>,
+    pub(super) bytes: Cell<[u8; ROOM]>,
     /// How many bytes one read or write moves at most.
     pub(super) most: Cell<usize>,
     /// Which call fails, from 0.
     pub(super) fails_at: Cell<usize>,
-    pub(super) calls: RefCell<Vec<Call>>,
+    /// How many calls there were.
+    pub(super) calls: Cell<usize>,
 }
 
 impl System {
-    pub(super) fn new(alloc: Global, name: &'static str, directory: &'static str) -> System {
+    pub(super) fn new(name: &'static str, directory: &'static str) -> System {
         System {
             name,
             directory,
             is_there: Cell::new(false),
-            is_read_only: Cell::new(false),
-            bytes: RefCell::new(Vec::new(alloc)),
-            printed: RefCell::new(Vec::new(alloc)),
+            length: Cell::new(0),
+            bytes: Cell::new([0; ROOM]),
             most: Cell::new(usize::MAX),
             fails_at: Cell::new(usize::MAX),
-            calls: RefCell::new(Vec::new(alloc)),
+            calls: Cell::new(0),
         }
     }
 
-    fn note(&self, call: Call) -> io::Result<()> {
-        let mut calls = self.calls.try_borrow_mut()?;
-        calls.push(call)?;
-        if calls.len() - 1 == self.fails_at.get() {
+    fn count(&self) -> io::Result<()> {
+        let call = self.calls.get();
+        self.calls.set(call.saturating_add(1));
+        if call == self.fails_at.get() {
             return Err(Error::from(ErrorKind::Other));
-        }
-        Ok(())
-    }
-
-    // Where the file is there, opening it does nothing to its bytes.
-    fn open_file(&self, how: &OpenOptions) -> io::Result<()> {
-        if how.asks_create_new() {
-            self.note(Call::Create)?;
-            self.is_there.set(true);
-            return Ok(());
-        }
-        if !how.asks_write() {
-            return self.note(Call::OpenToRead);
-        }
-        self.note(Call::OpenToWrite)?;
-        if self.is_read_only.get() {
-            return Err(Error::from(ErrorKind::PermissionDenied));
         }
         Ok(())
     }
@@ -100,9 +65,12 @@ pub(super) struct Fake<'a> {
 #[derive(Drop)]
 pub(super) struct FakeFile<'a> {
     system: &'a System,
-    is_directory: bool,
     // Where the next read begins.
     place: usize,
+}
+
+fn unsupported() -> Error {
+    Error::from(ErrorKind::Unsupported)
 }
 
 impl<'a> Files for Fake<'a> {
@@ -113,54 +81,41 @@ impl<'a> Files for Fake<'a> {
     fn open_file(&self, how: &OpenOptions, path: &str) -> io::Result<FakeFile<'a>> {
         let system = self.system;
         how.check()?;
-        if path == system.directory {
-            system.note(Call::OpenDirectory)?;
-            return Ok(FakeFile {
-                system,
-                is_directory: true,
-                place: 0,
-            });
-        }
-        if path != system.name || system.is_there.get() == how.asks_create_new() {
+        let is_new = how.asks_create_new();
+        if path != system.directory && (path != system.name || system.is_there.get() == is_new) {
             return Err(Error::from(ErrorKind::NotFound));
         }
-        system.open_file(how)?;
-        Ok(FakeFile {
-            system,
-            is_directory: false,
-            place: 0,
-        })
+        system.count()?;
+        system.is_there.set(system.is_there.get() || is_new);
+        Ok(FakeFile { system, place: 0 })
     }
 
     fn metadata(&self, path: &str) -> io::Result<Metadata> {
-        self.system.note(Call::Look)?;
-        if path == self.system.directory {
-            return Ok(Metadata::of_dir());
+        self.system.count()?;
+        if path != self.system.name || !self.system.is_there.get() {
+            return Err(Error::from(ErrorKind::NotFound));
         }
-        if path == self.system.name && self.system.is_there.get() {
-            return Ok(Metadata::of_file(self.system.bytes.try_borrow()?.len() as u64));
-        }
-        Err(Error::from(ErrorKind::NotFound))
+        Ok(Metadata::of_file(self.system.length.get()))
     }
 
     fn open_dir(&self, _path: &str) -> io::Result<FakeFile<'a>> {
-        Err(Error::from(ErrorKind::Unsupported))
+        Err(unsupported())
     }
 
     fn symlink_metadata(&self, _path: &str) -> io::Result<Metadata> {
-        Err(Error::from(ErrorKind::Unsupported))
+        Err(unsupported())
     }
 
     fn copy(&self, _from: &str, _to: &str) -> io::Result<u64> {
-        Err(Error::from(ErrorKind::Unsupported))
+        Err(unsupported())
     }
 
     fn rename(&self, _from: &str, _to: &str) -> io::Result<()> {
-        Err(Error::from(ErrorKind::Unsupported))
+        Err(unsupported())
     }
 
     fn remove_file(&self, path: &str) -> io::Result<()> {
-        self.system.note(Call::Remove)?;
+        self.system.count()?;
         if path != self.system.name {
             return Err(Error::from(ErrorKind::NotFound));
         }
@@ -169,51 +124,46 @@ impl<'a> Files for Fake<'a> {
     }
 
     fn create_dir(&self, _path: &str) -> io::Result<()> {
-        Err(Error::from(ErrorKind::Unsupported))
+        Err(unsupported())
     }
 
     fn remove_dir(&self, _path: &str) -> io::Result<()> {
-        Err(Error::from(ErrorKind::Unsupported))
+        Err(unsupported())
     }
 
     fn remove_dir_all<B: Allocator>(&self, _alloc: B, _path: &str) -> io::Result<()> {
-        Err(Error::from(ErrorKind::Unsupported))
+        Err(unsupported())
     }
 }
 
 impl<'a> Clock for Fake<'a> {
     fn monotonic(&self) -> io::Result<Duration> {
-        Ok(Duration::from_secs(0))
+        Err(unsupported())
     }
 
     fn since_1970(&self) -> io::Result<Duration> {
-        Ok(Duration::from_millis(12_999))
+        Err(unsupported())
     }
 }
 
 impl<'a> Print for Fake<'a> {
     fn print<D: Display + Drop>(&self, _value: D) -> io::Result<()> {
-        Err(Error::from(ErrorKind::Unsupported))
+        Err(unsupported())
     }
 
     fn println<D: Display + Drop>(&self, _value: D) -> io::Result<()> {
-        Err(Error::from(ErrorKind::Unsupported))
+        Err(unsupported())
     }
 
-    fn write_all(&self, bytes: &[u8]) -> io::Result<()> {
-        self.system.note(Call::Print(bytes.len()))?;
-        self.system
-            .printed
-            .try_borrow_mut()?
-            .extend_from_slice(bytes)?;
-        Ok(())
+    fn write_all(&self, _bytes: &[u8]) -> io::Result<()> {
+        self.system.count()
     }
 }
 
 impl<'a> FileExt for FakeFile<'a> {
     fn read_at(&self, buf: &mut [u8], offset: u64) -> io::Result<usize> {
-        self.system.note(Call::Read(offset, buf.len()))?;
-        let bytes = self.system.bytes.try_borrow()?;
+        self.system.count()?;
+        let bytes = self.system.bytes.get();
         let from = usize::try_from(offset).unwrap_or(usize::MAX);
         let rest = bytes.as_slice().get(from..).unwrap_or(&[]);
         let n = buf.len().min(rest.len()).min(self.system.most.get());
@@ -222,73 +172,62 @@ impl<'a> FileExt for FakeFile<'a> {
     }
 
     fn write_at(&self, buf: &[u8], offset: u64) -> io::Result<usize> {
-        self.system.note(Call::Write(offset, buf.len()))?;
-        let mut bytes = self.system.bytes.try_borrow_mut()?;
+        self.system.count()?;
+        let mut bytes = self.system.bytes.get();
         let from = usize::try_from(offset).unwrap_or(usize::MAX);
         let rest = bytes.as_mut_slice().get_mut(from..).unwrap_or(&mut []);
         let n = buf.len().min(rest.len()).min(self.system.most.get());
         rest[..n].copy_from_slice(&buf[..n]);
+        self.system.bytes.set(bytes);
         Ok(n)
     }
 }
 
 impl<'a> OpenFile for FakeFile<'a> {
     fn metadata(&self) -> io::Result<Metadata> {
-        Err(Error::from(ErrorKind::Unsupported))
+        Err(unsupported())
     }
 
     fn set_len(&self, size: u64) -> io::Result<()> {
-        self.system.note(Call::SetLength(size))?;
-        let len = usize::try_from(size).unwrap_or(usize::MAX);
-        self.system.bytes.try_borrow_mut()?.resize(len, 0)?;
-        Ok(())
+        self.system.length.set(size);
+        self.system.count()
     }
 
     fn sync_all(&self) -> io::Result<()> {
-        let call = if self.is_directory {
-            Call::SyncDirectory
-        } else {
-            Call::Sync
-        };
-        self.system.note(call)
+        self.system.count()
     }
 
     fn sync_data(&self) -> io::Result<()> {
-        self.system.note(Call::SyncData)
+        Err(unsupported())
     }
 }
 
 impl<'a> Seek for FakeFile<'a> {
     fn seek(&mut self, to: SeekFrom) -> io::Result<u64> {
         let SeekFrom::End(0) = to else {
-            return Err(Error::from(ErrorKind::Unsupported));
+            return Err(unsupported());
         };
-        self.system.note(Call::SeekEnd)?;
-        Ok(self.system.bytes.try_borrow()?.len() as u64)
+        self.system.count()?;
+        Ok(self.system.length.get())
     }
 }
 
 impl<'a> Read for FakeFile<'a> {
+    // It moves zeros.
     fn read(&mut self, buf: &mut [u8]) -> io::Result<usize> {
-        self.system.note(Call::Next(buf.len()))?;
-        let bytes = self.system.bytes.try_borrow()?;
-        let rest = bytes.as_slice().get(self.place..).unwrap_or(&[]);
-        let n = buf.len().min(rest.len()).min(self.system.most.get());
-        buf[..n].copy_from_slice(&rest[..n]);
+        self.system.count()?;
+        let length = usize::try_from(self.system.length.get()).unwrap_or(usize::MAX);
+        let rest = length.saturating_sub(self.place);
+        let n = buf.len().min(rest).min(self.system.most.get());
+        buf[..n].fill(0);
         self.place = self.place.saturating_add(n);
         Ok(n)
     }
 }
 
 impl<'a> Write for FakeFile<'a> {
-    fn write(&mut self, buf: &[u8]) -> io::Result<usize> {
-        self.system.note(Call::Append(buf.len()))?;
-        let n = buf.len().min(self.system.most.get());
-        self.system
-            .bytes
-            .try_borrow_mut()?
-            .extend_from_slice(&buf[..n])?;
-        Ok(n)
+    fn write(&mut self, _buf: &[u8]) -> io::Result<usize> {
+        Err(unsupported())
     }
 
     fn flush(&mut self) -> io::Result<()> {

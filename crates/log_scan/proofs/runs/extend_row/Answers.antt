@@ -3,7 +3,7 @@ use Rattle.volume_model.specs.Format.{Image}
 use Rattle.sector_disk.proofs.MadeCalls.{none_then}
 use Rattle.log_scan.specs.Pieces.{Holds}
 use Rattle.log_scan.proofs.RowsTold.{unwritten_then, row_more_told, row_ends_told}
-use Rattle.log_scan.proofs.runs.read_row.Goals as goal
+use Rattle.log_scan.proofs.runs.extend_row.Goals as goal
 
 pub loop-payload-preserved : goal.loop-payload-preserved
 loop-payload-preserved g c =

@@ -4,7 +4,7 @@ use Rattle.sector_disk.specs.Disk.{IsUnwritten, NoneFailed}
 use Rattle.log_scan.specs.Ring.{ring_in}
 use Rattle.log_scan.specs.Pieces.{Holds}
 use Rattle.log_scan.proofs.RowsTold.{IsRowTo}
-use Rattle.log_scan.proofs.runs.read_row.Given as goal
+use Rattle.log_scan.proofs.runs.extend_row.Given as goal
 
 -- the sectors before sector i are of the row, and the payload is what they carry
 abbrev pub invariant-loop-payload : goal.invariant-loop-payload
