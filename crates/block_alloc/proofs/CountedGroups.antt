@@ -3,12 +3,11 @@ use Rattle.std.proofs.Common.{◌≡◌, ◌<◌, ◌≤◌, ℕ, ◌+◌, ◌*�
 use Rattle.lufs_base.specs.Fields.{AreBytes}
 use Rattle.lufs_base.specs.Layout.{IsGeometry}
 use Rattle.lufs_base.specs.declared.geometry.Geometry.{Geometry}
-use Rattle.volume_model.specs.Format.{IsGroup, bit_at, clear_bits}
+use Rattle.volume_model.specs.Format.{IsGroup, bit_at, clear_bits, HasBit}
 use Rattle.volume_model.specs.Sound.{has_right_counts}
 use Rattle.change_laws.specs.Marks.{HasBlockPut, HasInodePut}
 use Rattle.change_laws.proofs.OneBit.{block_group, inode_group, counts_if}
 use Rattle.cyl_groups.specs.declared.group.Group.{Group}
-use Rattle.cyl_groups.specs.Bits.{HasBitPut}
 use Rattle.cyl_groups.specs.Group.{record_of, IsCounted, HasSizesOf, OnlyBlocks, OnlyInodes}
 use Rattle.block_alloc.specs.Marks.{IsCountedGroup}
 use Rattle.block_alloc.proofs.Counted.{clear_at_most}
@@ -39,7 +38,7 @@ module _ (g : Geometry) (old new : Group) (place : ℕ) (value : Bool) (ok : IsG
       }
 
 -- the same of what a call left there
-pub block_left : (g : Geometry) (old new x : Group) (place : ℕ) (value : Bool) → IsGeometry g → IsCountedGroup g old → x ≡ new → HasBitPut place value old.block_bits new.block_bits
+pub block_left : (g : Geometry) (old new x : Group) (place : ℕ) (value : Bool) → IsGeometry g → IsCountedGroup g old → x ≡ new → HasBit place value old.block_bits new.block_bits
     → IsCounted new → OnlyBlocks old new → g.ipg / 32 < place → place < g.bpg → length x.block_bits ≡ 256 → AreBytes x.block_bits → IsCountedGroup g x
 block_left g old new x place value ok before same bit counted others low below size bytes =
     let put : HasBlockPut place value (record_of old) (record_of new) = record {
@@ -51,7 +50,7 @@ block_left g old new x place value ok before same bit counted others low below s
     subst (IsCountedGroup g) (sym same)
     (block_counted g old new place value ok before counted put others low below (subst (λ (y : Group). length y.block_bits ≡ 256) same size) (subst (λ (y : Group). AreBytes y.block_bits) same bytes))
 
-pub inode_left : (g : Geometry) (old new x : Group) (place : ℕ) (value : Bool) → IsGeometry g → IsCountedGroup g old → x ≡ new → HasBitPut place value old.inode_bits new.inode_bits
+pub inode_left : (g : Geometry) (old new x : Group) (place : ℕ) (value : Bool) → IsGeometry g → IsCountedGroup g old → x ≡ new → HasBit place value old.inode_bits new.inode_bits
     → IsCounted new → OnlyInodes old new → 2 ≤ old.number * g.ipg + place → place < g.ipg → length x.inode_bits ≡ 128 → AreBytes x.inode_bits → IsCountedGroup g x
 inode_left g old new x place value ok before same bit counted others low below size bytes =
     let put : HasInodePut place value (record_of old) (record_of new) = record {

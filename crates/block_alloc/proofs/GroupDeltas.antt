@@ -13,11 +13,13 @@ use Rattle.lufs_base.specs.declared.delta.DeltaKind.TheVariants.{Group}
 use Rattle.lufs_base.proofs.Places.{only_region}
 use Rattle.volume_model.specs.declared.hand.Hand.{Hand}
 use Rattle.volume_model.specs.Log.{AreLoggable, may_be_logged, is_home_of, is_part_of_block, is_cancel}
+use Rattle.volume_model.specs.Format.{group_bytes}
 use Rattle.volume_laws.proofs.SameReading.{group_record_block}
 use Rattle.cyl_groups.specs.declared.group.Group.{Group as GroupInMemory}
 use Rattle.meta_store.proofs.MergedOrder.{precedes_from}
 use Rattle.meta_store.proofs.MergedTable.{IsLoggable, are_loggable}
-use Rattle.block_alloc.specs.Marks.{group_delta, MarksGroup, AreMarkings}
+use Rattle.meta_store.specs.Deltas.{group_delta}
+use Rattle.block_alloc.specs.Marks.{MarksGroup, AreMarkings}
 use Rattle.block_alloc.proofs.RecordReplaced.{length-group_bytes}
 use Rattle.block_alloc.proofs.HeldRecords.{IsGroupDelta, part_of_group}
 
@@ -39,7 +41,7 @@ record_logged g n ok within =
 -- a delta that marks a group
 pub marks_logged : (g : Geometry) (n : ℕ) (hand : Hand) (found : Option GroupInMemory) (d : Delta) → IsGeometry g → MarksGroup g n hand found d → IsGroupDelta g d
 marks_logged g n hand found d ok marks =
-    let own : Delta = group_delta g n marks.new in
+    let own : Delta = group_delta g n (group_bytes marks.new) in
     subst (IsGroupDelta g) (sym marks.is) (record {
       kind = refl;
       loggable = record { table = record_logged g n ok marks.within; bytes = length-group_bytes g n marks.new marks.marked.group };

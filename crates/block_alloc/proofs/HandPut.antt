@@ -11,11 +11,11 @@ use Rattle.std.proofs.lemmas.List.Folds.{list_any-append}
 use Rattle.lufs_base.specs.Layout.{IsGeometry, group_start}
 use Rattle.lufs_base.specs.declared.geometry.Geometry.{Geometry}
 use Rattle.volume_model.specs.declared.hand.Hand.{Hand}
-use Rattle.volume_model.specs.Format.{GroupRecord, bit_at, is_body}
+use Rattle.volume_model.specs.Format.{GroupRecord, bit_at, is_body, HasBit}
 use Rattle.volume_model.specs.Sound.{held_inodes, is_among}
 use Rattle.volume_laws.proofs.BodyBlocks.{none_before}
 use Rattle.change_laws.specs.Hands.{one_block, one_inode}
-use Rattle.change_laws.specs.Marks.{group_of_inode, group_of_block, place_of_block, HasHandPut, HasBit, HasBlockPut, HasInodePut}
+use Rattle.change_laws.specs.Marks.{group_of_inode, group_of_block, place_of_block, HasHandPut, HasBlockPut, HasInodePut}
 
 -- a bit of one member, at its place
 bit_of_one : (start place other n : ℕ) (value : Bool) (old new : List ℕ) → n ≡ start + place → HasBit place value old new

@@ -13,18 +13,18 @@ use Rattle.meta_store.specs.Laid.{laid_part, laid_block, laid_over}
 use Rattle.meta_store.specs.Changes.{deltas_on}
 use Rattle.meta_store.proofs.LaidBlocks.{nothing_laid, block_laid_over}
 use Rattle.meta_store.proofs.LaidParts.{part_laid}
-use Rattle.block_alloc.specs.Marks.{group_delta}
+use Rattle.meta_store.specs.Deltas.{group_delta}
 use Rattle.block_alloc.proofs.RecordReplaced.{length-group_bytes}
 
 -- the part of a block that the delta covers
-part_is_record : (g : Geometry) (n : ℕ) (new : GroupRecord) (part : List ℕ) → length (group_bytes new) ≡ 416 → length part ≡ 416 → laid_part (group_delta g n new) part ≡ group_bytes new
+part_is_record : (g : Geometry) (n : ℕ) (new : GroupRecord) (part : List ℕ) → length (group_bytes new) ≡ 416 → length part ≡ 416 → laid_part (group_delta g n (group_bytes new)) part ≡ group_bytes new
 unfolding laid_part
 part_is_record g n new part size covered =
     sym (fill_by_all (λ i. slice_index (group_bytes new) i) (group_bytes new) (length part) 0 (size ∙ sym covered) (λ k below. refl))
 
 module _ (g : Geometry) (n : ℕ) (new : GroupRecord) (image : Image) (ok : IsGeometry g) (within : n < g.groups) (group : IsGroup g n new) (whole : 4096 * blocks_of g ≤ length image) where
   abbrev d : Delta
-  d = group_delta g n new
+  d = group_delta g n (group_bytes new)
 
   abbrev at : ℕ
   at = group_start g n

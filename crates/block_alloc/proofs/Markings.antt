@@ -26,8 +26,9 @@ use Rattle.meta_store.specs.LaidSize.{length-laid_over}
 use Rattle.meta_store.specs.Laid.{laid_over}
 use Rattle.meta_store.specs.Changes.{deltas_on, is_group_at}
 use Rattle.meta_store.proofs.ImageLaid.{nothing_over, laid_over_append}
+use Rattle.meta_store.specs.Deltas.{group_delta}
 use Rattle.block_alloc.specs.Records.{AreRecords, IsReadGroup, AreReadGroups}
-use Rattle.block_alloc.specs.Marks.{has_of_group, group_delta, IsCountedGroup, MarksGroup, AreMarkedTo, AreMarkings}
+use Rattle.block_alloc.specs.Marks.{has_of_group, IsCountedGroup, MarksGroup, AreMarkedTo, AreMarkings}
 use Rattle.block_alloc.proofs.Chosen.{record_kept}
 use Rattle.block_alloc.proofs.CountedGroups.{counts_right}
 use Rattle.block_alloc.proofs.RecordReplaced.{length-group_bytes}
@@ -61,7 +62,7 @@ starts_rise g m n ok less =
     let rows : (m + 1) * g.bpg ≤ n * g.bpg = mul-le-mul_right g.bpg (omega (arith, less)) in
     omega (arith, rows, ok.bpg_low)
 
-pub group_here : (g : Geometry) (n : ℕ) (new : GroupRecord) → length (group_bytes new) ≡ 416 → is_group_at (4096 * group_start g n) 416 (group_delta g n new) ≡ true
+pub group_here : (g : Geometry) (n : ℕ) (new : GroupRecord) → length (group_bytes new) ≡ 416 → is_group_at (4096 * group_start g n) 416 (group_delta g n (group_bytes new)) ≡ true
 group_here g n new size =
     and_from (4096 * group_start g n == 4096 * group_start g n) (length (group_bytes new) == 416) (eq-eqb (4096 * group_start g n) (4096 * group_start g n) refl)
     (eq-eqb (length (group_bytes new)) 416 size)
@@ -134,7 +135,7 @@ module _ (g : Geometry) (records : List (Option Group)) (hand : Hand) (n : ℕ) 
           ];
       laid = λ image hands whole so stored.
           let mid : Image = laid_over (deltas_on deltas) image in
-          let own : Delta = group_delta g n marks.new in
+          let own : Delta = group_delta g n (group_bytes marks.new) in
           let room : 4096 * blocks_of g ≤ length mid = omega (arith, whole, length-laid_over (deltas_on deltas) image) in
           let was : record_at (reading_of g (block image)) n ≡ Some (record_of marks.old) =
           record_kept (reading_of g (block image)) records n so ∙ ap (option_map record_of) marks.was in

@@ -7,11 +7,11 @@ use Rattle.lufs_base.specs.Layout.{IsGeometry, group_start}
 use Rattle.lufs_base.specs.declared.geometry.Geometry.{Geometry}
 use Rattle.lufs_base.specs.declared.numbers.BlockNo.{BlockNo}
 use Rattle.volume_model.specs.declared.hand.Hand.{Hand}
-use Rattle.volume_model.specs.Format.{GroupRecord, IsGroup, bit_at, is_body}
+use Rattle.volume_model.specs.Format.{GroupRecord, IsGroup, bit_at, is_body, HasBit}
 use Rattle.volume_model.specs.Sound.{Reading, block_bit, is_claimed, held_inodes, held_blocks, is_among, IsStored}
 use Rattle.volume_laws.specs.Changes.{with_group}
 use Rattle.change_laws.specs.Hands.{one_block, one_inode}
-use Rattle.change_laws.specs.Marks.{group_of_inode, group_of_block, place_of_block, HasHandPut, HasBit, HasBlockPut, HasInodePut}
+use Rattle.change_laws.specs.Marks.{group_of_inode, group_of_block, place_of_block, HasHandPut, HasBlockPut, HasInodePut}
 use Rattle.change_laws.proofs.Places.{bits_of_stored, taken_block}
 use Rattle.cyl_groups.specs.declared.group.Group.{Group}
 use Rattle.cyl_groups.specs.Group.{record_of}

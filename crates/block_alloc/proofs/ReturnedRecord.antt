@@ -7,12 +7,12 @@ use Rattle.lufs_base.specs.Fields.{put_at}
 use Rattle.lufs_base.specs.Layout.{IsGeometry, group_start, blocks_of}
 use Rattle.lufs_base.specs.declared.geometry.Geometry.{Geometry}
 use Rattle.volume_model.specs.declared.hand.Hand.{Hand}
-use Rattle.volume_model.specs.Format.{Blocks, GroupRecord, IsGroup, bit_at, group_bytes, is_body}
+use Rattle.volume_model.specs.Format.{Blocks, GroupRecord, IsGroup, bit_at, group_bytes, is_body, HasBit}
 use Rattle.volume_model.specs.Sound.{Reading, reading_of, record_at, block_bit, is_among, IsLaid, is_bad_group, IsStored, IsRightTree, HasRightLinks, Tree, tree_of, StandsFor}
 use Rattle.volume_laws.specs.Changes.{with_group}
 use Rattle.volume_laws.proofs.BodyBlocks.{body_at}
 use Rattle.volume_laws.proofs.SoundParts.{in_parts}
-use Rattle.change_laws.specs.Marks.{group_of_block, place_of_block, HasBit}
+use Rattle.change_laws.specs.Marks.{group_of_block, place_of_block}
 use Rattle.change_laws.proofs.OneGroup.{record_put, record_kept}
 use Rattle.meta_store.specs.Changes.{with_part}
 use Rattle.meta_store.specs.Conditions.{HasBitsOf}

@@ -16,6 +16,7 @@ use Rattle.cyl_groups.specs.Group.{record_of, HasSizesOf, IsCounted}
 use Rattle.meta_store.specs.declared.change.Change.{Change}
 use Rattle.meta_store.specs.Laid.{laid_over}
 use Rattle.meta_store.specs.Changes.{deltas_on, is_group_at}
+use Rattle.meta_store.specs.Deltas.{group_delta}
 use Rattle.block_alloc.specs.Records.{AreRecords}
 
 -- All that the hand holds is of this volume: an inode that a call may make, and body blocks.
@@ -34,10 +35,6 @@ abbrev pub has_of_group : Geometry → Hand → (n : ℕ) → Bool
 has_of_group g hand n =
     list_any (λ i. group_of_inode g i == n) (held_inodes (hand ∷ [])) || list_any (λ b. group_of_block g b == n) hand.blocks
 
--- the delta of a record of group n
-abbrev pub group_delta : Geometry → (n : ℕ) → GroupRecord → Delta
-group_delta g n group = record { kind = of_group; home = 4096 * group_start g n; len = 416; bytes = group_bytes group }
-
 -- a record of group n with the bits of the hand set in it, and with right counts
 pub record IsMarked (g : Geometry) (n : ℕ) (hand : Hand) (old new : GroupRecord) : Type 0 where
   pub group : IsGroup g n new
@@ -52,7 +49,7 @@ pub record MarksGroup (g : Geometry) (n : ℕ) (hand : Hand) (found : Option Gro
   pub was : found ≡ Some old
   pub new : GroupRecord
   pub marked : IsMarked g n hand (record_of old) new
-  pub is : d ≡ group_delta g n new
+  pub is : d ≡ group_delta g n (group_bytes new)
 
 -- There is such a delta where the record was read and the hand has something of its group, and else none.
 abbrev pub IsMarkedDelta : Geometry → (n : ℕ) → Hand → Option Group → Option Delta → Type 0

@@ -3,7 +3,7 @@ ghost use Rattle.std.specs.Prelude.{◌≡◌, ◌<◌, ◌-◌, ◌&&◌, ◌==
 ghost use Rattle.std.specs.List.{count_by, filter, range_with_len};
 ghost use Rattle.lufs_base.specs.Layout.{IsGeometry, blocks_of};
 ghost use Rattle.volume_model.specs.declared.hand.Hand.{Hand};
-ghost use Rattle.volume_model.specs.Format.{Blocks, block, inodes_of, is_body};
+ghost use Rattle.volume_model.specs.Format.{Blocks, block, inodes_of};
 ghost use Rattle.volume_model.specs.Sound.{Tree, StandsFor, reading_of};
 ghost use Rattle.sector_disk.specs.Disk.{FailsJustAt};
 ghost use Rattle.meta_store.specs.declared.error.StoreError.TheVariants.{Disk};
@@ -17,7 +17,7 @@ use crate::held::{count_blocks, count_inodes, sum_of};
 use crate::records::{clear_blocks, clear_inodes, is_clear_block, is_clear_inode, read_records};
 use crate::{Hands, Taken};
 use cyl_groups::Group;
-use lufs_base::{BlockNo, Geometry, Mem, Region};
+use lufs_base::{BlockNo, Geometry, Mem};
 use meta_store::{MetaStore, StoreError};
 use std::alloc::Global;
 use tree_types::Wait;
@@ -80,15 +80,6 @@ fn refusal_of(inode: bool, n: u32, counts: &Counts) -> Option<Taken>
     None
 }
 
-// Whether `b` is a body block.
-fn is_body(g: &Geometry, b: u32) -> bool
-    requires geometry { IsGeometry g.now }
-    requires inside { b < blocks_of g.now }
-    ensures { result ≡ is_body g.now b }
-{
-    matches!(g.region(BlockNo(b)), Region::Body(_))
-}
-
 // Whether the block is free by its bit, and may be given out now.
 fn may_give<S: MetaStore>(store: &S, records: &[Option<Group>], b: u32) -> bool
     requires size { length records.now ≡ (S.store store.now).geometry.groups }
@@ -96,7 +87,7 @@ fn may_give<S: MetaStore>(store: &S, records: &[Option<Group>], b: u32) -> bool
     ensures { result ≡ may_give (S.store store.now).geometry records.now (S.changing store.now).is_released b }
 {
     let g = store.geometry();
-    is_body(g, b) && is_clear_block(g, records, b) && store.is_released(BlockNo(b))
+    g.is_body(BlockNo(b)) && is_clear_block(g, records, b) && store.is_released(BlockNo(b))
 }
 
 // How many such blocks there are.

@@ -17,7 +17,7 @@ use Rattle.history_model.specs.Wants.{wants_at, blocks_in}
 use Rattle.history_model.specs.Refusals.{Decision, Refuse, Unchanged, Proceed, Rows, refusals_at, decision_at}
 use Rattle.history_model.specs.Replies.{decided, reply_at, decided_reply, walked_reply, walked_tree, reply_of, tree_after}
 use Rattle.history_model.specs.Histories.{makes_inode, is_ok}
-use Rattle.history_model.proofs.RefusedLaws.{refused_tree}
+use Rattle.history_rules.proofs.RefusedLaws.{refused_tree}
 use Rattle.file_ops.specs.Replies.{IsReplyTo}
 use Rattle.name_ops.specs.Asked.{asked}
 use Rattle.name_ops.specs.declared.wanted.Wanted.{Wanted}

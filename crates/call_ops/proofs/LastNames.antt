@@ -11,7 +11,7 @@ use Rattle.volume_model.specs.Sound.{Node, File, Directory, Link, Tree}
 use Rattle.history_model.specs.Places.{is_directory_in, lookup, may}
 use Rattle.history_model.specs.Walk.{WalkEnd, Ends, Missing, Follows, Goes, first_of, or_dot, parts_of, step_on, step_of, refused_part, walk_of}
 use Rattle.history_model.specs.Walks.{Walks, NoParts, Stops, Last, NotThere, TooMany, Followed, Onward, step_at}
-use Rattle.history_model.proofs.WalksLaws.{walk_is}
+use Rattle.history_rules.proofs.WalksLaws.{walk_is}
 use Rattle.call_ops.specs.Served.{is_path_byte}
 use Rattle.call_ops.proofs.SplitParts.{parts_all, kept_all}
 

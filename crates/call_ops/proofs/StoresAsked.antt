@@ -18,11 +18,11 @@ use Rattle.history_model.specs.Walk.{WalkEnd}
 use Rattle.history_model.specs.Ends.{One, end_of, ends_of}
 use Rattle.history_model.specs.Wants.{wants_at}
 use Rattle.history_model.specs.Refusals.{decision_at}
-use Rattle.history_model.proofs.WalkLaws.{walk_ends}
+use Rattle.history_rules.proofs.WalkLaws.{walk_ends}
 use Rattle.meta_store.specs.declared.change.Change.{Change}
 use Rattle.meta_store.specs.declared.error.StoreError.{StoreError}
 use Rattle.meta_store.specs.Changing.{AllTold}
-use Rattle.change_rules.specs.Planned.{ino_of, MayPlan, IsPlanned}
+use Rattle.plan_ends.specs.Planned.{ino_of, MayPlan, IsPlanned}
 use Rattle.name_ops.specs.Asked.{asked}
 use Rattle.name_ops.specs.declared.wanted.Wanted.{Wanted}
 use Rattle.inode_reads.proofs.ByTree.{ByTree, follows, follows_both}

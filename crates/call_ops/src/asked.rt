@@ -3,7 +3,7 @@ use path_walk::Walked;
 use tree_types::Reply;
 
 /// What a call is answered that is asked.
-#[derive(Debug, Drop)]
+#[derive(Drop)]
 pub enum Asked {
     /// The reply of a call that changes nothing.
     Told(Reply),

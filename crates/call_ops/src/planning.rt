@@ -11,7 +11,7 @@ ghost use Rattle.meta_store.specs.Store.{IsUnchanged};
 ghost use Rattle.meta_store.specs.Changing.{IsKept, all_told};
 ghost use Rattle.meta_store.specs.Conditions.{MayApply};
 ghost use Rattle.meta_store.specs.declared.error.StoreError.TheVariants.{Disk};
-ghost use Rattle.change_rules.specs.Planned.{ino_of, MayPlan, IsPlanned};
+ghost use Rattle.plan_ends.specs.Planned.{ino_of, MayPlan, IsPlanned};
 ghost use Rattle.path_walk.specs.Answers.{end_of};
 ghost use Rattle.call_ops.specs.Served.{changes_names, has_right_words};
 

@@ -1,28 +1,16 @@
 //! Tests: calls on a small volume with a file and a link to it, asked and then planned.
-ghost use Rattle.std.specs.Prelude.{◌≡◌, ◌≤◌, ◌*◌, length, IfOk, IsTrue};
+ghost use Rattle.std.specs.Prelude.{◌≡◌, IfOk, IsTrue};
 ghost use Rattle.std.specs.List.{list_all};
-ghost use Rattle.lufs_base.specs.Layout.{IsGeometry, blocks_of};
 ghost use Rattle.call_ops.specs.Served.{is_path_byte, is_served, has_right_words, changes_names};
 
+use crate::volume::{Untold, Words, image_of};
 use block_alloc::Hands;
 use call_ops::{Asked, ask, plan};
-use lufs_base::{BLOCK, BlockNo, DiskFault, Geometry, Mem};
-use meta_store::{MetaRead, StoreError};
+use lufs_base::{BlockNo, Mem};
+use meta_store::StoreError;
 use std::alloc::Global;
 use tree_types::{Call, Cred, PathText, Refusal, Reply};
 use volume_model::{BlockList, Hand};
-
-/// A volume of 99 blocks: group block 35, inode block 36, and body blocks from 37 on.
-const SMALLEST: Geometry = Geometry {
-    version: 1,
-    groups: 1,
-    bpg: 64,
-    ipg: 32,
-    log: 256,
-};
-
-/// Numbers of 32 bits that stand in a block: the block, which of its numbers the first of them is, and the numbers.
-type Words<'a> = (u32, u32, &'a [u32]);
 
 /// The root, inode 2, has block 37, in which it names the file `f`, inode 3, and the link `l`, inode 4, whose text `f` is in
 /// block 38.
@@ -42,76 +30,7 @@ const MADE: &[Words] = &[
     (38, 0, &[0x6600_0000]),
 ];
 
-/// A volume that doesn't tell what it holds.
-#[derive(Debug, Drop)]
-struct Untold {
-    geometry: Geometry,
-    image: Vec<u8>,
-    pub ghost in_range: { IsGeometry geometry },
-    pub ghost whole: { 4096 * blocks_of geometry ≤ length image.items },
-}
-
-impl MetaRead for Untold {
-    ghost use Rattle.std.specs.Prelude.{None};
-    ghost use Rattle.meta_store.specs.Store.{no_disk};
-    ghost use Rattle.meta_store.specs.Changing.{no_changes};
-
-    ghost store = { λ s. record { geometry = s.geometry; content = None; disk = no_disk } };
-
-    ghost changing = { λ s. no_changes };
-
-    fn geometry(&self) -> &Geometry {
-        &self.geometry
-    }
-
-    fn faults(&self) -> u64 {
-        0
-    }
-
-    fn block(&mut self, b: BlockNo, out: &mut [u8]) -> Result<(), DiskFault> {
-        let at = BLOCK * b.0 as usize;
-        out.copy_from_slice(&self.image[at..at + BLOCK]);
-        Ok(())
-    }
-
-    fn blocks(&mut self, first: BlockNo, out: &mut [u8]) -> Result<(), DiskFault> {
-        let at = BLOCK * first.0 as usize;
-        out.copy_from_slice(&self.image[at..at + out.len()]);
-        Ok(())
-    }
-
-    ghost size = { λ s. tt };
-}
-
-// Puts the numbers into the image, as far as it goes.
-fn put(image: &mut [u8], words: &Words) {
-    let (block, first, numbers) = *words;
-    let mut at = 4096 * block as usize + 4 * first as usize;
-    for number in numbers {
-        for byte in number.to_be_bytes() {
-            if let Some(place) = image.get_mut(at) {
-                *place = byte;
-            }
-            at = at.saturating_add(1);
-        }
-    }
-}
-
-fn store_of(alloc: Global) -> Result<Untold, Mem> {
-    let mut image = vec![in alloc; 0u8; 405_504]?;
-    for words in MADE {
-        put(&mut image, words);
-    }
-    if image.len() != 405_504 {
-        return Err(Mem);
-    }
-    Ok(Untold {
-        geometry: SMALLEST,
-        image,
-    })
-}
-
-#[derive(Clone, Copy, Debug, PartialEq, Eq)]
+#[derive(Clone, Copy)]
 enum Kind {
     Create,
     Mkdir,
@@ -119,7 +38,7 @@ enum Kind {
     Rmdir,
 }
 
-#[derive(Clone, Copy, Debug, PartialEq, Eq)]
+#[derive(Clone, Copy)]
 enum Question {
     Stat,
     Lstat,
@@ -127,7 +46,7 @@ enum Question {
 }
 
 /// How a call is answered.
-#[derive(Clone, Copy, Debug, PartialEq, Eq)]
+#[derive(Clone, Copy, PartialEq, Eq)]
 enum Answer {
     Refused(Refusal),
     /// Of this inode.
@@ -212,10 +131,45 @@ fn hand_of(alloc: Global, inode: bool, blocks: u32) -> Result<Hand, Mem> {
 
 const WRITER: Cred = Cred { uid: 0, gid: 0 };
 
+/// A call: what it is, the byte that its path has after the slash and how often, and the answer.
+type Changing = (Kind, u8, usize, Answer);
+
+const CHANGING: &[Changing] = &[
+    (Kind::Create, b'n', 1, Answer::Done(true, 0)),
+    (Kind::Create, b'l', 1, Answer::Refused(Refusal::Exist)),
+    (Kind::Mkdir, b'n', 1, Answer::Done(true, 1)),
+    (Kind::Remove, b'l', 1, Answer::Done(false, 0)),
+    (Kind::Remove, b'/', 1, Answer::Refused(Refusal::Isdir)),
+    (Kind::Rmdir, b'l', 1, Answer::Refused(Refusal::Notdir)),
+    (
+        Kind::Create,
+        b'/',
+        1024,
+        Answer::Refused(Refusal::Nametoolong),
+    ),
+];
+
+/// A question, told as a call is.
+type Asking = (Question, u8, usize, Answer);
+
+const ASKING: &[Asking] = &[
+    (Question::Stat, b'l', 1, Answer::Stat(3)),
+    (Question::Lstat, b'l', 1, Answer::Stat(4)),
+    (Question::List, b'/', 1023, Answer::Names(2)),
+    (
+        Question::List,
+        b'/',
+        1024,
+        Answer::Refused(Refusal::Nametoolong),
+    ),
+    (Question::List, b'l', 1, Answer::Refused(Refusal::Notdir)),
+    (Question::Stat, b'n', 1, Answer::Refused(Refusal::Noent)),
+];
+
 fn change(alloc: Global, kind: Kind, path: PathText) -> Result<Answer, StoreError>
     requires { IsTrue (list_all is_path_byte path) }
 {
-    let mut store = store_of(alloc)?;
+    let mut store = Untold::new(image_of(alloc, MADE, &[])?)?;
     let held = Hands::new(alloc);
     let call = change_of(kind, path);
     match ask(alloc, &mut store, &WRITER, &call, &held)? {
@@ -240,7 +194,7 @@ fn change(alloc: Global, kind: Kind, path: PathText) -> Result<Answer, StoreErro
 fn told(alloc: Global, question: Question, path: PathText) -> Result<Answer, StoreError>
     requires { IsTrue (list_all is_path_byte path) }
 {
-    let mut store = store_of(alloc)?;
+    let mut store = Untold::new(image_of(alloc, MADE, &[])?)?;
     let call = question_of(question, path);
     Ok(
         match ask(alloc, &mut store, &WRITER, &call, &Hands::new(alloc))? {
@@ -251,44 +205,15 @@ fn told(alloc: Global, question: Question, path: PathText) -> Result<Answer, Sto
 }
 
 #[test]
-fn calls_carried_out(rt: HostRuntime) -> Result<(), std::test::Fail> {
+fn calls_answered(rt: HostRuntime) -> Result<(), std::test::Fail> {
     let alloc = rt.alloc();
-    for (kind, byte, length, want) in [
-        (Kind::Create, b'n', 1, Answer::Done(true, 0)),
-        (Kind::Create, b'l', 1, Answer::Refused(Refusal::Exist)),
-        (Kind::Mkdir, b'n', 1, Answer::Done(true, 1)),
-        (Kind::Remove, b'l', 1, Answer::Done(false, 0)),
-        (Kind::Remove, b'/', 1, Answer::Refused(Refusal::Isdir)),
-        (Kind::Rmdir, b'l', 1, Answer::Refused(Refusal::Notdir)),
-        (
-            Kind::Create,
-            b'/',
-            1024,
-            Answer::Refused(Refusal::Nametoolong),
-        ),
-    ] {
-        assert_eq!(rt; change(alloc, kind, path_of(alloc, byte, length)?)?, want);
+    for (kind, byte, length, want) in CHANGING {
+        let answer = change(alloc, *kind, path_of(alloc, *byte, *length)?)?;
+        assert!(rt; answer == *want, "{byte} {length}");
     }
-    Ok(())
-}
-
-#[test]
-fn questions_answered(rt: HostRuntime) -> Result<(), std::test::Fail> {
-    let alloc = rt.alloc();
-    for (question, byte, length, want) in [
-        (Question::Stat, b'l', 1, Answer::Stat(3)),
-        (Question::Lstat, b'l', 1, Answer::Stat(4)),
-        (Question::List, b'/', 1023, Answer::Names(2)),
-        (
-            Question::List,
-            b'/',
-            1024,
-            Answer::Refused(Refusal::Nametoolong),
-        ),
-        (Question::List, b'l', 1, Answer::Refused(Refusal::Notdir)),
-        (Question::Stat, b'n', 1, Answer::Refused(Refusal::Noent)),
-    ] {
-        assert_eq!(rt; told(alloc, question, path_of(alloc, byte, length)?)?, want);
+    for (question, byte, length, want) in ASKING {
+        let answer = told(alloc, *question, path_of(alloc, *byte, *length)?)?;
+        assert!(rt; answer == *want, "{byte} {length}");
     }
     Ok(())
 }

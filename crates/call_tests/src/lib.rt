@@ -6,3 +6,5 @@
 mod calls;
 #[cfg(test)]
 mod names;
+#[cfg(test)]
+mod volume;

@@ -1,31 +1,19 @@
 //! Tests: a volume with a root and a directory of one full block; what `create` and `mkdir` want and plan there.
-ghost use Rattle.std.specs.Prelude.{◌≡◌, ◌≤◌, ◌*◌, length, IfOk};
-ghost use Rattle.lufs_base.specs.Layout.{IsGeometry, blocks_of};
 
 mod removed_directory;
 
+use crate::volume::{SMALLEST, Untold, Words, image_of};
 use block_alloc::Hands;
-use lufs_base::{BLOCK, BlockNo, DeltaKind, DeltaList, DiskFault, Geometry, Ino, Mem, Name};
-use meta_store::{MetaRead, PlainStore, StoreError};
+use lufs_base::{BlockNo, DeltaKind, DeltaList, Ino, Mem, Name};
+use meta_store::{PlainStore, StoreError};
 use name_ops::{Wanted, plan_create, wants_create};
 use path_walk::Walked;
 use std::alloc::Global;
 use tree_types::{Cred, Refusal, Reply};
 use volume_model::{BlockList, Hand};
 
-/// A volume of 99 blocks: group block 35, inode block 36, and body blocks from 37 on.
-const SMALLEST: Geometry = Geometry {
-    version: 1,
-    groups: 1,
-    bpg: 64,
-    ipg: 32,
-    log: 256,
-};
-
-/// Numbers of 32 bits that stand in a block: the block, which of its numbers the first of them is, and the numbers.
-type Words<'a> = (u32, u32, &'a [u32]);
-
-/// The root, inode 2, has block 37 and one chunk. Inode 3 is a directory of eight chunks of two slots each in block 38.
+/// The root, inode 2, has block 37 and one chunk. Inode 3 is a directory of eight chunks of two slots each in block 38,
+/// with names from `c` to `p`.
 const MADE: &[Words] = &[
     (35, 0, &[0x0009_0255, 0, 28, 60]),
     (35, 8, &[0x0f00_0000]),
@@ -38,6 +26,20 @@ const MADE: &[Words] = &[
     (37, 3, &[2, 0x01f4_0002, 0x2e2e_0000]),
     (38, 0, &[3, 0x0100_0001, 0x2e00_0000]),
     (38, 64, &[2, 0x0100_0002, 0x2e2e_0000]),
+    (38, 128, &[2, 0x0100_0001, 0x6300_0000]),
+    (38, 192, &[2, 0x0100_0001, 0x6400_0000]),
+    (38, 256, &[2, 0x0100_0001, 0x6500_0000]),
+    (38, 320, &[2, 0x0100_0001, 0x6600_0000]),
+    (38, 384, &[2, 0x0100_0001, 0x6700_0000]),
+    (38, 448, &[2, 0x0100_0001, 0x6800_0000]),
+    (38, 512, &[2, 0x0100_0001, 0x6900_0000]),
+    (38, 576, &[2, 0x0100_0001, 0x6a00_0000]),
+    (38, 640, &[2, 0x0100_0001, 0x6b00_0000]),
+    (38, 704, &[2, 0x0100_0001, 0x6c00_0000]),
+    (38, 768, &[2, 0x0100_0001, 0x6d00_0000]),
+    (38, 832, &[2, 0x0100_0001, 0x6e00_0000]),
+    (38, 896, &[2, 0x0100_0001, 0x6f00_0000]),
+    (38, 960, &[2, 0x0100_0001, 0x7000_0000]),
 ];
 
 /// All inodes are in use, and all blocks.
@@ -49,7 +51,7 @@ const NO_BLOCKS: Words = (35, 40, &[0xffff_ffff, 0xffff_ffff]);
 const NO_LINKS: Words = (36, 64, &[0x41ed_7fff]);
 
 /// What of a volume is used up.
-#[derive(Clone, Copy, Debug, PartialEq, Eq)]
+#[derive(Clone, Copy)]
 enum Full {
     Nothing,
     Inodes,
@@ -59,7 +61,7 @@ enum Full {
 }
 
 /// What a call makes.
-#[derive(Clone, Copy, Debug)]
+#[derive(Clone, Copy)]
 enum Makes {
     File,
     Directory,
@@ -69,46 +71,38 @@ enum Makes {
 /// answer: why it is refused, or how many blocks it wants.
 type Asked = (Full, u32, u32, usize, bool, Result<u32, Refusal>);
 
-// Puts the numbers into the image, as far as it goes.
-fn put(image: &mut [u8], words: &Words) {
-    let (block, first, numbers) = *words;
-    let mut at = 4096 * block as usize + 4 * first as usize;
-    for number in numbers {
-        for byte in number.to_be_bytes() {
-            if let Some(place) = image.get_mut(at) {
-                *place = byte;
-            }
-            at = at.saturating_add(1);
-        }
-    }
-}
+const FILES: &[Asked] = &[
+    (Full::Nothing, 0, 2, 1, false, Ok(0)),
+    (Full::Nothing, 0, 3, 235, false, Ok(0)),
+    (Full::Nothing, 0, 3, 236, false, Ok(1)),
+    (Full::Nothing, 7, 2, 1, false, Err(Refusal::Denied)),
+    (Full::Nothing, 7, 2, 1, true, Err(Refusal::Denied)),
+    (Full::Nothing, 0, 2, 1, true, Err(Refusal::Exist)),
+    (Full::Inodes, 0, 2, 1, false, Err(Refusal::Noinodes)),
+    (Full::Both, 0, 3, 236, false, Err(Refusal::Noinodes)),
+    (Full::Blocks, 0, 3, 236, false, Err(Refusal::Nospace)),
+    (Full::Blocks, 0, 2, 1, false, Ok(0)),
+];
 
-fn image_with(alloc: Global, full: Full) -> Result<Vec<u8>, Mem>
-    ensures { IfOk result (λ image. length image.items ≡ 405504) }
-{
-    let mut image = vec![in alloc; 0u8; 405_504]?;
-    for words in MADE {
-        put(&mut image, words);
+const DIRECTORIES: &[Asked] = &[
+    (Full::Nothing, 0, 2, 1, false, Ok(1)),
+    (Full::Nothing, 0, 3, 236, false, Ok(2)),
+    (Full::Links, 7, 2, 1, true, Err(Refusal::Denied)),
+    (Full::Links, 0, 2, 1, true, Err(Refusal::Exist)),
+    (Full::Links, 0, 2, 1, false, Err(Refusal::Mlink)),
+    (Full::Both, 0, 2, 1, false, Err(Refusal::Noinodes)),
+    (Full::Blocks, 0, 2, 1, false, Err(Refusal::Nospace)),
+];
+
+/// What makes that use up.
+fn used_up(full: Full) -> &'static [Words<'static>] {
+    match full {
+        Full::Nothing => &[],
+        Full::Inodes => &[NO_INODES],
+        Full::Blocks => &[NO_BLOCKS],
+        Full::Both => &[NO_INODES, NO_BLOCKS],
+        Full::Links => &[NO_LINKS],
     }
-    for k in 2u32..16 {
-        put(
-            &mut image,
-            &(38, 64 * k, &[2, 0x0100_0001, (0x61 + k) << 24]),
-        );
-    }
-    if matches!(full, Full::Inodes | Full::Both) {
-        put(&mut image, &NO_INODES);
-    }
-    if matches!(full, Full::Blocks | Full::Both) {
-        put(&mut image, &NO_BLOCKS);
-    }
-    if full == Full::Links {
-        put(&mut image, &NO_LINKS);
-    }
-    if image.len() != 405_504 {
-        return Err(Mem);
-    }
-    Ok(image)
 }
 
 fn walked(alloc: Global, dir: u32, length: usize, there: bool) -> Result<Walked, Mem> {
@@ -134,7 +128,7 @@ fn answer(wanted: &Wanted) -> Result<u32, Refusal> {
 // What is answered that is asked for.
 fn wanted(alloc: Global, makes: Makes, asked: &Asked) -> Result<Result<u32, Refusal>, StoreError> {
     let (full, uid, dir, length, there, _) = *asked;
-    let mut store = PlainStore::new(&SMALLEST, image_with(alloc, full)?);
+    let mut store = PlainStore::new(&SMALLEST, image_of(alloc, MADE, used_up(full))?);
     let cred = Cred { uid, gid: 7 };
     let end = walked(alloc, dir, length, there)?;
     let held = Hands::new(alloc);
@@ -145,96 +139,13 @@ fn wanted(alloc: Global, makes: Makes, asked: &Asked) -> Result<Result<u32, Refu
     Ok(answer(&wanted))
 }
 
-#[test]
-fn files_wanted(rt: HostRuntime) -> Result<(), std::test::Fail> {
-    let alloc = rt.alloc();
-    let cases: [Asked; 10] = [
-        (Full::Nothing, 0, 2, 1, false, Ok(0)),
-        (Full::Nothing, 0, 3, 235, false, Ok(0)),
-        (Full::Nothing, 0, 3, 236, false, Ok(1)),
-        (Full::Nothing, 7, 2, 1, false, Err(Refusal::Denied)),
-        (Full::Nothing, 7, 2, 1, true, Err(Refusal::Denied)),
-        (Full::Nothing, 0, 2, 1, true, Err(Refusal::Exist)),
-        (Full::Inodes, 0, 2, 1, false, Err(Refusal::Noinodes)),
-        (Full::Both, 0, 3, 236, false, Err(Refusal::Noinodes)),
-        (Full::Blocks, 0, 3, 236, false, Err(Refusal::Nospace)),
-        (Full::Blocks, 0, 2, 1, false, Ok(0)),
-    ];
+fn are_wanted(alloc: Global, makes: Makes, cases: &[Asked]) -> Result<bool, StoreError> {
     for case in cases {
-        assert_eq!(rt; wanted(alloc, Makes::File, &case)?, case.5);
-    }
-    Ok(())
-}
-
-#[test]
-fn directories_wanted(rt: HostRuntime) -> Result<(), std::test::Fail> {
-    let alloc = rt.alloc();
-    let cases: [Asked; 7] = [
-        (Full::Nothing, 0, 2, 1, false, Ok(1)),
-        (Full::Nothing, 0, 3, 236, false, Ok(2)),
-        (Full::Links, 7, 2, 1, true, Err(Refusal::Denied)),
-        (Full::Links, 0, 2, 1, true, Err(Refusal::Exist)),
-        (Full::Links, 0, 2, 1, false, Err(Refusal::Mlink)),
-        (Full::Both, 0, 2, 1, false, Err(Refusal::Noinodes)),
-        (Full::Blocks, 0, 2, 1, false, Err(Refusal::Nospace)),
-    ];
-    for case in cases {
-        assert_eq!(rt; wanted(alloc, Makes::Directory, &case)?, case.5);
-    }
-    Ok(())
-}
-
-/// A volume that doesn't tell what it holds.
-#[derive(Debug, Drop)]
-struct Untold {
-    geometry: Geometry,
-    image: Vec<u8>,
-    pub ghost in_range: { IsGeometry geometry },
-    pub ghost whole: { 4096 * blocks_of geometry ≤ length image.items },
-}
-
-impl Untold {
-    fn new(image: Vec<u8>) -> Result<Untold, Mem> {
-        if image.len() != 405_504 {
-            return Err(Mem);
+        if wanted(alloc, makes, case)? != case.5 {
+            return Ok(false);
         }
-        Ok(Untold {
-            geometry: SMALLEST,
-            image,
-        })
     }
-}
-
-impl MetaRead for Untold {
-    ghost use Rattle.std.specs.Prelude.{None};
-    ghost use Rattle.meta_store.specs.Store.{no_disk};
-    ghost use Rattle.meta_store.specs.Changing.{no_changes};
-
-    ghost store = { λ s. record { geometry = s.geometry; content = None; disk = no_disk } };
-
-    ghost changing = { λ s. no_changes };
-
-    fn geometry(&self) -> &Geometry {
-        &self.geometry
-    }
-
-    fn faults(&self) -> u64 {
-        0
-    }
-
-    fn block(&mut self, b: BlockNo, out: &mut [u8]) -> Result<(), DiskFault> {
-        let at = BLOCK * b.0 as usize;
-        out.copy_from_slice(&self.image[at..at + BLOCK]);
-        Ok(())
-    }
-
-    fn blocks(&mut self, first: BlockNo, out: &mut [u8]) -> Result<(), DiskFault> {
-        let at = BLOCK * first.0 as usize;
-        out.copy_from_slice(&self.image[at..at + out.len()]);
-        Ok(())
-    }
-
-    ghost size = { λ s. tt };
+    Ok(true)
 }
 
 /// A delta: its kind, its home and its length.
@@ -250,29 +161,73 @@ fn has_deltas(list: &DeltaList, deltas: &[Planned]) -> bool {
             .all(|(d, other)| (d.kind, d.home, d.len) == *other)
 }
 
-// What the plan of a file or directory in the root answers, and whether its change has just these deltas; nothing where the name isn't
-// an allowed one.
-fn planned(
-    alloc: Global,
-    makes: Makes,
-    uid: u32,
-    there: bool,
-    deltas: &[Planned],
-) -> Result<Option<(Reply, bool)>, StoreError> {
-    let mut store = Untold::new(image_with(alloc, Full::Nothing)?)?;
-    let cred = Cred { uid, gid: 7 };
-    let end = walked(alloc, 2, 1, there)?;
-    if !end.name.is_allowed() {
-        return Ok(None);
+// Whether that is the reply of a call that is done, or refused so.
+fn is_reply(reply: &Reply, refused: Option<Refusal>) -> bool {
+    match reply {
+        Reply::Done => refused.is_none(),
+        Reply::Refused(why) => refused == Some(*why),
+        _ => false,
     }
+}
+
+/// What is planned in the root: what is made, the caller, whether the name is there, why it is refused, if it is, and the
+/// deltas.
+type Plan<'a> = (Makes, u32, bool, Option<Refusal>, &'a [Planned]);
+
+const PLANS: &[Plan] = &[
+    // The record of the root, which has another time; that of the new inode 4; and the chunk with its name.
+    (
+        Makes::File,
+        0,
+        false,
+        None,
+        &[
+            (DeltaKind::Inode, 147_712, 128),
+            (DeltaKind::Inode, 147_968, 128),
+            (DeltaKind::Chunk, 151_552, 512),
+        ],
+    ),
+    (Makes::File, 0, true, Some(Refusal::Exist), &[]),
+    (Makes::File, 7, false, Some(Refusal::Denied), &[]),
+    // The records of the root and of the new inode 4, the chunk of the root with its name, and its own block and chunk.
+    (
+        Makes::Directory,
+        0,
+        false,
+        None,
+        &[
+            (DeltaKind::Inode, 147_712, 128),
+            (DeltaKind::Inode, 147_968, 128),
+            (DeltaKind::Chunk, 151_552, 512),
+            (DeltaKind::Zero, 159_744, 4096),
+            (DeltaKind::Chunk, 159_744, 512),
+        ],
+    ),
+    (Makes::Directory, 0, true, Some(Refusal::Exist), &[]),
+];
+
+// The new inode 4, and block 39 for a directory.
+fn hand_for(alloc: Global, makes: Makes) -> Result<Hand, Mem> {
     let mut blocks = BlockList::new(alloc);
     if matches!(makes, Makes::Directory) {
         blocks.push(BlockNo(39))?;
     }
-    let hand = Hand {
+    Ok(Hand {
         inode: Some(4),
         blocks,
-    };
+    })
+}
+
+// Whether that is planned in the root; not so where the name isn't an allowed one.
+fn is_planned(alloc: Global, plan: &Plan) -> Result<bool, StoreError> {
+    let (makes, uid, there, refused, deltas) = *plan;
+    let mut store = Untold::new(image_of(alloc, MADE, &[])?)?;
+    let cred = Cred { uid, gid: 7 };
+    let end = walked(alloc, 2, 1, there)?;
+    if !end.name.is_allowed() {
+        return Ok(false);
+    }
+    let hand = hand_for(alloc, makes)?;
     let held = Hands::new(alloc);
     let (change, reply) = match makes {
         Makes::File => plan_create(alloc, &mut store, &cred, 0o644, &end, &hand, &held, 2000)?,
@@ -280,61 +235,23 @@ fn planned(
             alloc, &mut store, &cred, 0o755, &end, &hand, &held, 2000,
         )?,
     };
-    Ok(Some((reply, has_deltas(&change.deltas, deltas))))
+    Ok(is_reply(&reply, refused) && has_deltas(&change.deltas, deltas))
+}
+
+fn are_planned(alloc: Global) -> Result<bool, StoreError> {
+    for plan in PLANS {
+        if !is_planned(alloc, plan)? {
+            return Ok(false);
+        }
+    }
+    Ok(true)
 }
 
 #[test]
-fn files_planned(rt: HostRuntime) -> Result<(), std::test::Fail> {
+fn names_made(rt: HostRuntime) -> Result<(), std::test::Fail> {
     let alloc = rt.alloc();
-    // The record of the root, which has another time; that of the new inode 4; and the chunk with its name.
-    let made: [Planned; 3] = [
-        (DeltaKind::Inode, 147_712, 128),
-        (DeltaKind::Inode, 147_968, 128),
-        (DeltaKind::Chunk, 151_552, 512),
-    ];
-    assert!(rt;
-        matches!(
-            planned(alloc, Makes::File, 0, false, &made)?,
-            Some((Reply::Done, true))
-        )
-    );
-    assert!(rt;
-        matches!(
-            planned(alloc, Makes::File, 0, true, &[])?,
-            Some((Reply::Refused(Refusal::Exist), true))
-        )
-    );
-    assert!(rt;
-        matches!(
-            planned(alloc, Makes::File, 7, false, &[])?,
-            Some((Reply::Refused(Refusal::Denied), true))
-        )
-    );
-    Ok(())
-}
-
-#[test]
-fn directories_planned(rt: HostRuntime) -> Result<(), std::test::Fail> {
-    let alloc = rt.alloc();
-    // The records of the root and of the new inode 4, the chunk of the root with its name, and its own block and chunk.
-    let made: [Planned; 5] = [
-        (DeltaKind::Inode, 147_712, 128),
-        (DeltaKind::Inode, 147_968, 128),
-        (DeltaKind::Chunk, 151_552, 512),
-        (DeltaKind::Zero, 159_744, 4096),
-        (DeltaKind::Chunk, 159_744, 512),
-    ];
-    assert!(rt;
-        matches!(
-            planned(alloc, Makes::Directory, 0, false, &made)?,
-            Some((Reply::Done, true))
-        )
-    );
-    assert!(rt;
-        matches!(
-            planned(alloc, Makes::Directory, 0, true, &[])?,
-            Some((Reply::Refused(Refusal::Exist), true))
-        )
-    );
+    assert!(rt; are_wanted(alloc, Makes::File, FILES)?);
+    assert!(rt; are_wanted(alloc, Makes::Directory, DIRECTORIES)?);
+    assert!(rt; are_planned(alloc)?);
     Ok(())
 }

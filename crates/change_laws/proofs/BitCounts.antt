@@ -1,8 +1,7 @@
 -- How many bits are clear where one bit changes.
 use Rattle.std.proofs.Common.{◌≡◌, ℕ, zero, suc, ◌+◌, ◌<◌, ◌≤◌, Bool, true, false, if◌then◌else◌, List, inl, inr, refl, sym, ap, ◌∙◌, arith}
 use Rattle.std.proofs.lemmas.Bool.{cases_eq}
-use Rattle.volume_model.specs.Format.{bit_at, clear_bits}
-use Rattle.change_laws.specs.Marks.{HasBit}
+use Rattle.volume_model.specs.Format.{bit_at, clear_bits, HasBit}
 
 counts_same : (m n : ℕ) (a b : Bool) → m ≡ n → a ≡ b → m + (if a then 0 else 1) ≡ n + (if b then 0 else 1)
 counts_same m n a b front here = ap (λ (k : ℕ). k + (if a then 0 else 1)) front ∙ ap (λ (c : Bool). n + (if c then 0 else 1)) here

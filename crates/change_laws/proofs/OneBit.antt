@@ -9,12 +9,12 @@ use Rattle.lufs_base.specs.Fields.{AreBytes}
 use Rattle.lufs_base.specs.Layout.{IsGeometry, group_start}
 use Rattle.lufs_base.specs.declared.geometry.Geometry.{Geometry}
 use Rattle.volume_model.specs.declared.hand.Hand.{Hand}
-use Rattle.volume_model.specs.Format.{is_body, GroupRecord, IsGroup, bit_at, clear_bits}
+use Rattle.volume_model.specs.Format.{is_body, GroupRecord, IsGroup, bit_at, clear_bits, HasBit}
 use Rattle.volume_model.specs.Sound.{Reading, inodes_in, record_at, inode_bit, block_bit, has_right_counts, IsStored}
 use Rattle.volume_laws.specs.Changes.{with_group}
 use Rattle.volume_laws.proofs.BodyBlocks.{body_at}
 use Rattle.change_laws.specs.Hands.{one_block, one_inode}
-use Rattle.change_laws.specs.Marks.{group_of_inode, group_of_block, place_of_block, IsOfGroup, IsFree, HasHandPut, HasBit, HasBlockPut, HasInodePut}
+use Rattle.change_laws.specs.Marks.{group_of_inode, group_of_block, place_of_block, IsOfGroup, IsFree, HasHandPut, HasBlockPut, HasInodePut}
 use Rattle.change_laws.proofs.BitCounts.{one_less, one_more}
 use Rattle.change_laws.proofs.OneGroup.{mark_stored}
 use Rattle.change_laws.proofs.HandBits.{taken_marks, back_marks}

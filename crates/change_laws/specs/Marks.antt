@@ -3,7 +3,7 @@ use Rattle.std.specs.Prelude.{◌≡◌, ◌≢◌, ◌<◌, ◌≤◌, ℕ, ◌
 use Rattle.lufs_base.specs.Layout.{group_start}
 use Rattle.lufs_base.specs.declared.geometry.Geometry.{Geometry}
 use Rattle.volume_model.specs.declared.hand.Hand.{Hand}
-use Rattle.volume_model.specs.Format.{is_body, GroupRecord, bit_at}
+use Rattle.volume_model.specs.Format.{is_body, GroupRecord, bit_at, HasBit}
 use Rattle.volume_model.specs.Sound.{Reading, inodes_in, used_at, is_claimed, held_inodes, held_blocks, is_among, AreApart, inode_bit, block_bit, has_right_counts}
 
 -- the group of an inode, and that of a block of a group
@@ -49,11 +49,6 @@ pub record HasHandPut (g : Geometry) (n : ℕ) (value : Bool) (hand : Hand) (old
       → bit_at new.inode_bits place ≡ (if is_among (n * g.ipg + place) (held_inodes (hand ∷ [])) then value else bit_at old.inode_bits place)
   pub block_bits : (place : ℕ) → place < g.bpg
       → bit_at new.block_bits place ≡ (if is_among (group_start g n + place) hand.blocks then value else bit_at old.block_bits place)
-
--- one bit has this value after, and all others are as they were
-pub record HasBit (place : ℕ) (value : Bool) (old new : List ℕ) : Type 0 where
-  pub bit : bit_at new place ≡ value
-  pub others : (other : ℕ) → other ≢ place → bit_at new other ≡ bit_at old other
 
 -- In the record of a group the bit of the block at this place has this value after. Its count aside, all else is as it was.
 pub record HasBlockPut (place : ℕ) (value : Bool) (old new : GroupRecord) : Type 0 where

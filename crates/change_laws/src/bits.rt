@@ -4,11 +4,11 @@ ghost use Rattle.lufs_base.specs.Fields.{AreBytes};
 ghost use Rattle.lufs_base.specs.Layout.{IsGeometry, group_start};
 ghost use Rattle.lufs_base.specs.declared.geometry.Geometry.{Geometry};
 ghost use Rattle.volume_model.specs.declared.hand.Hand.{Hand};
-ghost use Rattle.volume_model.specs.Format.{GroupRecord, IsGroup, bit_at, clear_bits};
+ghost use Rattle.volume_model.specs.Format.{GroupRecord, IsGroup, bit_at, clear_bits, HasBit};
 ghost use Rattle.volume_model.specs.Sound.{Reading, inodes_in, record_at, has_right_counts, IsStored};
 ghost use Rattle.volume_laws.specs.Changes.{with_group};
 ghost use Rattle.change_laws.specs.Hands.{one_block, one_inode};
-ghost use Rattle.change_laws.specs.Marks.{HasHandPut, HasBit, HasBlockPut, HasInodePut};
+ghost use Rattle.change_laws.specs.Marks.{HasHandPut, HasBlockPut, HasInodePut};
 
 /// One free block or inode whose bit is set joins the hands.
 pub fn one_taken()

@@ -1,19 +1,18 @@
 //! Tests: a directory of three chunks, one of eight, and one that is empty, read through a draft.
-ghost use Rattle.std.specs.Prelude.{◌≡◌, length, IfOk};
 
-use crate::volume::{self, SMALLEST, Words, put};
-use dir_ops::{Room, can_enter, enter, entries, is_empty, lookup, remove, replace, set_parent};
-use lufs_base::{BlockNo, Ino, Mem, Name};
+use crate::volume::{SMALLEST, Words, failing, image_of};
+use dir_ops::{enter, remove, replace, set_parent};
+use dir_reads::{Room, can_enter, entries, is_empty, lookup};
+use lufs_base::{BlockNo, Ino, Name};
 use meta_draft::Draft;
-use meta_store::{LaidDeltas, PlainStore, ReplayedDisk, StoreError};
-use sector_disk::{Disk, Fail, MemDisk};
+use meta_store::{MetaRead, PlainStore, StoreError};
 use std::alloc::Global;
 use tree_types::NameList;
-use volume_model::TxList;
 
 /// The root, inode 2, has block 37 and three chunks: one with `.`, `..`, an unused slot and `b`, one that is a slot of
 /// `long`, and one with `a`. Inode 3 is a directory with block 38 and one chunk, in which only itself and the root
-/// are named. Inode 4 is a file, inode 5 a directory of eight chunks of two slots each, and inode 6 one of the first of them.
+/// are named. Inode 4 is a file, inode 5 a directory of eight chunks of two slots each, with names from `c` to `p`, and
+/// inode 6 one of the first of them.
 const MADE: &[Words] = &[
     (36, 64, &[0x41ed_0003, 0, 0, 0, 0, 1536, 0, 1000, 37]),
     (36, 87, &[1]),
@@ -34,156 +33,155 @@ const MADE: &[Words] = &[
     (38, 3, &[2, 0x01f4_0002, 0x2e2e_0000]),
     (39, 0, &[5, 0x0100_0001, 0x2e00_0000]),
     (39, 64, &[2, 0x0100_0002, 0x2e2e_0000]),
+    (39, 128, &[4, 0x0100_0001, 0x6300_0000]),
+    (39, 192, &[4, 0x0100_0001, 0x6400_0000]),
+    (39, 256, &[4, 0x0100_0001, 0x6500_0000]),
+    (39, 320, &[4, 0x0100_0001, 0x6600_0000]),
+    (39, 384, &[4, 0x0100_0001, 0x6700_0000]),
+    (39, 448, &[4, 0x0100_0001, 0x6800_0000]),
+    (39, 512, &[4, 0x0100_0001, 0x6900_0000]),
+    (39, 576, &[4, 0x0100_0001, 0x6a00_0000]),
+    (39, 640, &[4, 0x0100_0001, 0x6b00_0000]),
+    (39, 704, &[4, 0x0100_0001, 0x6c00_0000]),
+    (39, 768, &[4, 0x0100_0001, 0x6d00_0000]),
+    (39, 832, &[4, 0x0100_0001, 0x6e00_0000]),
+    (39, 896, &[4, 0x0100_0001, 0x6f00_0000]),
+    (39, 960, &[4, 0x0100_0001, 0x7000_0000]),
 ];
 
-/// What is asked and answered of a directory.
-type Found<'a> = (u32, &'a [u8], Option<u32>);
+/// What is asked and answered of a directory: the directory, the name, and the inode, 0 where there is none.
+type Found<'a> = (u32, &'a [u8], u32);
 
-/// A name that is entered: the directory, the name, the inode, and the blocks that are given.
-type Entered<'a> = (u32, &'a [u8], u32, &'a [BlockNo]);
+const FOUND: &[Found] = &[
+    (2, b".", 2),
+    (2, b"..", 2),
+    (2, b"a", 4),
+    (2, b"b", 3),
+    (2, b"long", 5),
+    (2, b"lon", 0),
+    (2, b"longer", 0),
+    (2, b"g", 0),
+    (3, b"..", 2),
+    (4, b".", 0),
+    (5, b"p", 4),
+    (40, b".", 0),
+];
 
+/// Directories, and whether each is empty.
+const EMPTY: &[(u32, bool)] = &[(2, false), (3, true), (4, true), (5, false)];
+
+/// The directory, the length of a name, and the room for it.
 type Roomy = (u32, usize, Room);
 
+const ROOMS: &[Roomy] = &[
+    (2, 255, Room::Fits),
+    (3, 255, Room::Fits),
+    (5, 235, Room::Fits),
+    (5, 236, Room::NewBlock),
+    (6, 235, Room::Fits),
+    (6, 236, Room::NewChunk),
+];
+
+/// The directory, the name that is listed before, the most that are listed, the names, and whether others follow.
 type Listed<'a> = (u32, Option<&'a [u8]>, u32, &'a [&'a [u8]], bool);
 
-// The slots of the chunks of inode 5 after the first, each of 256 bytes, named `c` to `p`.
-fn put_chunks(image: &mut [u8]) {
-    for k in 2u32..16 {
-        put(image, &(39, 64 * k, &[4, 0x0100_0001, (0x61 + k) << 24]));
-    }
-}
+const LISTED: &[Listed] = &[
+    (2, None, 16, &[b"a", b"b", b"long"], false),
+    (2, None, 3, &[b"a", b"b", b"long"], false),
+    (2, None, 2, &[b"a", b"b"], true),
+    (2, Some(b"a"), 1, &[b"b"], true),
+    (2, Some(b"bb"), 16, &[b"long"], false),
+    (3, None, 16, &[], false),
+];
 
-// The volume with these directories.
-fn image_of(alloc: Global) -> Result<Vec<u8>, Mem>
-    ensures { IfOk result (λ image. length image.items ≡ 405504) }
-{
-    let mut image = volume::image_of(alloc, MADE)?;
-    put_chunks(&mut image);
-    Ok(image)
-}
+/// A name of the greatest length, of which shorter ones are a part.
+const LONGEST: &[u8] = &[b'n'; 255];
 
-fn store_of(alloc: Global) -> Result<PlainStore, Mem> {
-    Ok(PlainStore::new(&SMALLEST, image_of(alloc)?))
-}
+/// A name that is entered: the directory, the name, the inode, and the blocks
+/// that are given.
+type Entered<'a> = (u32, &'a [u8], u32, &'a [BlockNo]);
 
-#[test]
-fn names_looked_up(rt: HostRuntime) -> Result<(), std::test::Fail> {
-    let alloc = rt.alloc();
-    let mut store = store_of(alloc)?;
-    let draft = Draft::new(alloc);
-    let cases: [Found; 12] = [
-        (2, b".", Some(2)),
-        (2, b"..", Some(2)),
-        (2, b"a", Some(4)),
-        (2, b"b", Some(3)),
-        (2, b"long", Some(5)),
-        (2, b"lon", None),
-        (2, b"longer", None),
-        (2, b"g", None),
-        (3, b"..", Some(2)),
-        (4, b".", None),
-        (5, b"p", Some(4)),
-        (40, b".", None),
-    ];
-    for (dir, name, found) in cases {
-        let name = Name::from_slice(alloc, name)?;
-        assert_eq!(rt;
-            lookup(alloc, &draft, &mut store, Ino(dir), &name),
-            Ok(found.map(Ino))
-        );
-    }
-    Ok(())
-}
+/// The second one needs a block, and the third one a chunk.
+const ENTERED: &[Entered] = &[
+    (3, b"x", 4, &[]),
+    (5, &[b'n'; 236], 4, &[BlockNo(40)]),
+    (5, &[b'm'; 255], 3, &[]),
+];
 
-#[test]
-fn empty_directories(rt: HostRuntime) -> Result<(), std::test::Fail> {
-    let alloc = rt.alloc();
-    let mut store = store_of(alloc)?;
-    let draft = Draft::new(alloc);
-    for (dir, empty) in [(2, false), (3, true), (4, true), (5, false)] {
-        assert_eq!(rt; is_empty(alloc, &draft, &mut store, Ino(dir)), Ok(empty));
-    }
-    Ok(())
-}
+/// What is found after the changes.
+const CHANGED: &[Found] = &[
+    (2, b"a", 3),
+    (2, b"b", 0),
+    (2, b"long", 5),
+    (3, b".", 3),
+    (3, b"..", 5),
+    (3, b"x", 4),
+    (5, b"p", 4),
+    (5, &[b'n'; 236], 4),
+    (5, &[b'm'; 255], 3),
+];
 
-#[test]
-fn rooms(rt: HostRuntime) -> Result<(), std::test::Fail> {
-    let alloc = rt.alloc();
-    let mut store = store_of(alloc)?;
-    let draft = Draft::new(alloc);
-    let cases: [Roomy; 6] = [
-        (2, 255, Room::Fits),
-        (3, 255, Room::Fits),
-        (5, 235, Room::Fits),
-        (5, 236, Room::NewBlock),
-        (6, 235, Room::Fits),
-        (6, 236, Room::NewChunk),
-    ];
-    for (dir, length, room) in cases {
-        let name = Name::from_slice(alloc, &[b'n'; 255][..length])?;
-        assert_eq!(rt;
-            can_enter(alloc, &draft, &mut store, Ino(dir), &name),
-            Ok(room)
-        );
-    }
-    Ok(())
-}
+/// The read that fails, and what is found of `a` in the root. Its inode block and its block are read, each once.
+const FAILING: &[(u64, Result<u32, StoreError>)] = &[
+    (1, Err(StoreError::Disk)),
+    (2, Err(StoreError::Disk)),
+    (3, Ok(4)),
+];
 
-// Enters the name, where it is an allowed one.
-fn enter_allowed(
+// The inode of that name, 0 where there is none.
+fn found_in<S: MetaRead>(
     alloc: Global,
-    draft: &mut Draft,
-    store: &mut PlainStore,
-    entered: &Entered,
-) -> Result<bool, StoreError> {
-    let (dir, name, i, fresh) = *entered;
+    draft: &Draft,
+    store: &mut S,
+    dir: u32,
+    name: &[u8],
+) -> Result<u32, StoreError> {
     let name = Name::from_slice(alloc, name)?;
-    if !name.is_allowed() {
-        return Ok(false);
+    let found = lookup(alloc, draft, store, Ino(dir), &name)?;
+    Ok(found.unwrap_or(Ino(0)).0)
+}
+
+fn are_found<S: MetaRead>(
+    alloc: Global,
+    draft: &Draft,
+    store: &mut S,
+    cases: &[Found],
+) -> Result<bool, StoreError> {
+    for (dir, name, found) in cases {
+        if found_in(alloc, draft, store, *dir, name)? != *found {
+            return Ok(false);
+        }
     }
-    enter(alloc, draft, store, Ino(dir), &name, Ino(i), fresh)?;
     Ok(true)
 }
 
-#[test]
-fn directories_changed(rt: HostRuntime) -> Result<(), std::test::Fail> {
-    let alloc = rt.alloc();
-    let mut store = store_of(alloc)?;
-    let mut draft = Draft::new(alloc);
-    let long = [b'n'; 236];
-    // The second one needs a block, and the third one a chunk.
-    let entered: [Entered; 3] = [
-        (3, b"x", 4, &[]),
-        (5, &long, 4, &[BlockNo(40)]),
-        (5, &[b'm'; 255], 3, &[]),
-    ];
-    for case in entered {
-        assert!(rt; enter_allowed(alloc, &mut draft, &mut store, &case)?);
+fn are_empty<S: MetaRead>(alloc: Global, draft: &Draft, store: &mut S) -> Result<bool, StoreError> {
+    for (dir, empty) in EMPTY {
+        if is_empty(alloc, draft, store, Ino(*dir))? != *empty {
+            return Ok(false);
+        }
     }
-    let a = Name::from_slice(alloc, b"a")?;
-    replace(alloc, &mut draft, &mut store, Ino(2), &a, Ino(3))?;
-    let b = Name::from_slice(alloc, b"b")?;
-    remove(alloc, &mut draft, &mut store, Ino(2), &b)?;
-    set_parent(alloc, &mut draft, &mut store, Ino(3), Ino(5))?;
-    let cases: [Found; 9] = [
-        (2, b"a", Some(3)),
-        (2, b"b", None),
-        (2, b"long", Some(5)),
-        (3, b".", Some(3)),
-        (3, b"..", Some(5)),
-        (3, b"x", Some(4)),
-        (5, b"p", Some(4)),
-        (5, &long, Some(4)),
-        (5, &[b'm'; 255], Some(3)),
-    ];
-    for (dir, name, found) in cases {
-        let name = Name::from_slice(alloc, name)?;
-        assert_eq!(rt;
-            lookup(alloc, &draft, &mut store, Ino(dir), &name),
-            Ok(found.map(Ino))
-        );
+    Ok(true)
+}
+
+fn room_for<S: MetaRead>(
+    alloc: Global,
+    draft: &Draft,
+    store: &mut S,
+    dir: u32,
+    length: usize,
+) -> Result<Room, StoreError> {
+    let name = Name::from_slice(alloc, LONGEST.get(..length).unwrap_or(b""))?;
+    can_enter(alloc, draft, store, Ino(dir), &name)
+}
+
+fn have_room<S: MetaRead>(alloc: Global, draft: &Draft, store: &mut S) -> Result<bool, StoreError> {
+    for (dir, length, room) in ROOMS {
+        if room_for(alloc, draft, store, *dir, *length)? != *room {
+            return Ok(false);
+        }
     }
-    Ok(())
+    Ok(true)
 }
 
 // Whether the list has just these names.
@@ -196,54 +194,103 @@ fn has_names(list: &NameList, names: &[&[u8]]) -> bool {
             .all(|(name, other)| name.as_slice() == *other)
 }
 
-#[test]
-fn listings(rt: HostRuntime) -> Result<(), std::test::Fail> {
-    let alloc = rt.alloc();
-    let mut store = store_of(alloc)?;
-    let draft = Draft::new(alloc);
-    let cases: [Listed; 6] = [
-        (2, None, 16, &[b"a", b"b", b"long"], false),
-        (2, None, 3, &[b"a", b"b", b"long"], false),
-        (2, None, 2, &[b"a", b"b"], true),
-        (2, Some(b"a"), 1, &[b"b"], true),
-        (2, Some(b"bb"), 16, &[b"long"], false),
-        (3, None, 16, &[], false),
-    ];
-    for (dir, after, most, names, more) in cases {
-        let after = match after {
-            Some(name) => Some(Name::from_slice(alloc, name)?),
-            None => None,
-        };
-        let (list, others) = entries(alloc, &draft, &mut store, Ino(dir), after.as_ref(), most)?;
-        assert!(rt; has_names(&list, names));
-        assert_eq!(rt; others, more);
-    }
-    Ok(())
+fn lists<S: MetaRead>(
+    alloc: Global,
+    draft: &Draft,
+    store: &mut S,
+    listed: &Listed,
+) -> Result<bool, StoreError> {
+    let (dir, after, most, names, more) = *listed;
+    let after = match after {
+        Some(name) => Some(Name::from_slice(alloc, name)?),
+        None => None,
+    };
+    let (list, others) = entries(alloc, draft, store, Ino(dir), after.as_ref(), most)?;
+    Ok(others == more && has_names(&list, names))
 }
 
-// What is found of `a` in the root, where these calls of the disk fail.
-fn found_after(alloc: Global, fails: &[Fail]) -> Result<Option<Ino>, StoreError> {
-    let disk = MemDisk::new(image_of(alloc)?, Vec::from_slice(alloc, fails)?);
-    let laid = LaidDeltas::new(alloc, &TxList::new(alloc))?;
-    if disk.sectors() < 792 {
-        return Err(StoreError::Mem);
+fn are_listed<S: MetaRead>(
+    alloc: Global,
+    draft: &Draft,
+    store: &mut S,
+) -> Result<bool, StoreError> {
+    for listed in LISTED {
+        if !lists(alloc, draft, store, listed)? {
+            return Ok(false);
+        }
     }
-    let mut store = ReplayedDisk::over(disk, &SMALLEST, laid);
-    let name = Name::from_slice(alloc, b"a")?;
-    lookup(alloc, &Draft::new(alloc), &mut store, Ino(2), &name)
+    Ok(true)
+}
+
+// Whether the directories are read as they were made.
+fn are_read(alloc: Global, draft: &Draft, store: &mut PlainStore) -> Result<bool, StoreError> {
+    Ok(
+        are_found(alloc, draft, store, FOUND)?
+            && are_empty(alloc, draft, store)?
+            && have_room(alloc, draft, store)?
+            && are_listed(alloc, draft, store)?,
+    )
+}
+
+// Enters the name, where it is an allowed one.
+fn enter_allowed<S: MetaRead>(
+    alloc: Global,
+    draft: &mut Draft,
+    store: &mut S,
+    entered: &Entered,
+) -> Result<bool, StoreError> {
+    let (dir, name, i, fresh) = *entered;
+    let name = Name::from_slice(alloc, name)?;
+    if !name.is_allowed() {
+        return Ok(false);
+    }
+    enter(alloc, draft, store, Ino(dir), &name, Ino(i), fresh)?;
+    Ok(true)
+}
+
+// In the root `a` becomes the inode 3, and `b` goes.
+fn edit<S: MetaRead>(alloc: Global, draft: &mut Draft, store: &mut S) -> Result<(), StoreError> {
+    let a = Name::from_slice(alloc, b"a")?;
+    replace(alloc, draft, store, Ino(2), &a, Ino(3))?;
+    let b = Name::from_slice(alloc, b"b")?;
+    remove(alloc, draft, store, Ino(2), &b)
+}
+
+// Whether the directories are read as they were changed.
+fn are_changed(
+    alloc: Global,
+    draft: &mut Draft,
+    store: &mut PlainStore,
+) -> Result<bool, StoreError> {
+    for entered in ENTERED {
+        if !enter_allowed(alloc, draft, store, entered)? {
+            return Ok(false);
+        }
+    }
+    edit(alloc, draft, store)?;
+    set_parent(alloc, draft, store, Ino(3), Ino(5))?;
+    are_found(alloc, draft, store, CHANGED)
+}
+
+// Whether all is read and changed in one volume.
+fn are_served(alloc: Global) -> Result<bool, StoreError> {
+    let mut store = PlainStore::new(&SMALLEST, image_of(alloc, MADE)?);
+    let mut draft = Draft::new(alloc);
+    Ok(are_read(alloc, &draft, &mut store)? && are_changed(alloc, &mut draft, &mut store)?)
+}
+
+// What is found of `a` in the root, where the disk fails at this read.
+fn found_after(alloc: Global, read: u64) -> Result<u32, StoreError> {
+    let mut store = failing(alloc, MADE, read)?;
+    found_in(alloc, &Draft::new(alloc), &mut store, 2, b"a")
 }
 
 #[test]
-fn reads_that_fail(rt: HostRuntime) -> Result<(), std::test::Fail> {
+fn directories_read_and_changed(rt: HostRuntime) -> Result<(), std::test::Fail> {
     let alloc = rt.alloc();
-    // The inode block and the root's block are read, each once.
-    for n in 1..3 {
-        assert_eq!(rt;
-            found_after(alloc, &[Fail::Read(n)]),
-            Err(StoreError::Disk),
-            "{n}"
-        );
+    assert!(rt; are_served(alloc)?);
+    for (read, found) in FAILING {
+        assert_eq!(rt; found_after(alloc, *read), *found, "{read}");
     }
-    assert_eq!(rt; found_after(alloc, &[Fail::Read(3)]), Ok(Some(Ino(4))));
     Ok(())
 }

@@ -1,15 +1,11 @@
 //! A file with holes, direct blocks and a pointer block, read through a draft.
-ghost use Rattle.std.specs.Prelude.{◌≤◌, ◌+◌};
-ghost use Rattle.history_model.specs.FileBytes.{greatest_size};
 
-use crate::volume::{SMALLEST, Words, image_of};
+use crate::volume::{SMALLEST, Words, failing, has_freed, image_of};
 use file_map::{attach, blocks_needed, cut, map};
 use lufs_base::{BlockNo, Ino};
 use meta_draft::Draft;
-use meta_store::{LaidDeltas, PlainStore, ReplayedDisk, StoreError};
-use sector_disk::{Disk, Fail, MemDisk};
+use meta_store::{MetaRead, PlainStore, StoreError};
 use std::alloc::Global;
-use volume_model::TxList;
 
 /// Inode 3 is a file of 14 blocks: at 0 block 38, at 11 block 39, and at 13 block 41, by pointer block 40. Inode 4 is
 /// a file of one byte, in block 42, inode 5 an empty one, and inode 6 one of 14 blocks that are all holes.
@@ -26,173 +22,203 @@ const MADE: &[Words] = &[
     (40, 1, &[41]),
 ];
 
-/// What is asked and answered of the block at an index.
-type Mapped = (u32, u32, Option<u32>);
+/// The most bytes of a file.
+const GREATEST: u64 = 4_243_456;
 
-/// A block that a file gets: the inode, the index, the pointer block that it lacks, and an index that stays a hole.
-type Attached<'a> = (u32, u32, &'a [BlockNo], u32);
+/// The inode, an index, and the block there, 0 for a hole.
+type Mapped = (u32, u32, u32);
 
-/// A file that gets another size: the inode, the size, the blocks that are freed with whether they held metadata, an
-/// index, and the block that is left there.
-type Cut<'a> = (u32, u64, &'a [(u32, bool)], u32, Option<u32>);
+const MAPPED: &[Mapped] = &[
+    (3, 0, 38),
+    (3, 1, 0),
+    (3, 11, 39),
+    (3, 12, 0),
+    (3, 13, 41),
+    (3, 1036, 0),
+    (4, 0, 42),
+    (5, 0, 0),
+    (7, 0, 0),
+    (40, u32::MAX, 0),
+];
 
 /// What is asked and answered of bytes: the inode, the first byte, how many, the indexes, and the pointer blocks.
 type Lacks<'a> = (u32, u64, u64, &'a [u32], u32);
 
-#[test]
-fn blocks_mapped(rt: HostRuntime) -> Result<(), std::test::Fail> {
-    let alloc = rt.alloc();
+const LACKS: &[Lacks] = &[
+    (3, 0, 8193, &[1, 2], 0),
+    (3, 4095, 1, &[], 0),
+    (3, 45056, 12289, &[12, 14], 0),
+    (4, 0, 49152, &[1, 2, 3, 4, 5, 6, 7, 8, 9, 10, 11], 0),
+    (4, 49151, 2, &[11, 12], 1),
+    (5, 4239360, 4096, &[1035], 1),
+    (5, 4096, 0, &[], 0),
+];
+
+/// A block that a file gets: the inode, the index, the pointer block that it lacks, and an index that stays a hole.
+type Attached<'a> = (u32, u32, &'a [BlockNo], u32);
+
+const ATTACHED: &[Attached] = &[
+    (3, 1, &[], 2),
+    (3, 12, &[], 14),
+    (6, 11, &[], 10),
+    (6, 12, &[BlockNo(44)], 13),
+    (6, 13, &[BlockNo(44)], 12),
+];
+
+/// A file that gets another size: the inode, the size, the blocks that are freed with whether they held metadata, an
+/// index, and the block that is left there, 0 for a hole.
+type Cut<'a> = (u32, u64, &'a [(u32, bool)], u32, u32);
+
+const CUT: &[Cut] = &[
+    (3, 61440, &[], 13, 41),
+    (3, 57343, &[], 13, 41),
+    (3, 53248, &[(41, false)], 13, 0),
+    (3, 49152, &[(40, true), (41, false)], 11, 39),
+    (3, 45056, &[(40, true), (39, false), (41, false)], 11, 0),
+    (
+        3,
+        0,
+        &[(40, true), (38, false), (39, false), (41, false)],
+        0,
+        0,
+    ),
+    (4, 0, &[(42, false)], 0, 0),
+    (6, 53248, &[], 12, 0),
+];
+
+/// An index of inode 3, the read that fails, and the block there. The pointer block is read only where the index needs
+/// it.
+const FAILING: &[(u32, u64, Result<u32, StoreError>)] = &[
+    (11, 1, Err(StoreError::Disk)),
+    (11, 2, Ok(39)),
+    (13, 1, Err(StoreError::Disk)),
+    (13, 2, Err(StoreError::Disk)),
+    (13, 3, Ok(41)),
+];
+
+// The block at an index, 0 for a hole.
+fn block_at<S: MetaRead>(
+    alloc: Global,
+    draft: &Draft,
+    store: &mut S,
+    i: u32,
+    index: u32,
+) -> Result<u32, StoreError> {
+    let block = map(alloc, draft, store, Ino(i), index)?;
+    Ok(block.unwrap_or(BlockNo(0)).0)
+}
+
+fn are_mapped<S: MetaRead>(
+    alloc: Global,
+    draft: &Draft,
+    store: &mut S,
+) -> Result<bool, StoreError> {
+    for (i, index, block) in MAPPED {
+        if block_at(alloc, draft, store, *i, *index)? != *block {
+            return Ok(false);
+        }
+    }
+    Ok(true)
+}
+
+fn lacks<S: MetaRead>(
+    alloc: Global,
+    draft: &Draft,
+    store: &mut S,
+    lacks: &Lacks,
+) -> Result<bool, StoreError> {
+    let (i, offset, count, indexes, pointers) = *lacks;
+    if offset > GREATEST || count > GREATEST - offset {
+        return Ok(false);
+    }
+    let needed = blocks_needed(alloc, draft, store, Ino(i), offset, count)?;
+    Ok(needed.indexes.as_slice() == indexes && needed.pointers == pointers)
+}
+
+fn are_lacking<S: MetaRead>(
+    alloc: Global,
+    draft: &Draft,
+    store: &mut S,
+) -> Result<bool, StoreError> {
+    for row in LACKS {
+        if !lacks(alloc, draft, store, row)? {
+            return Ok(false);
+        }
+    }
+    Ok(true)
+}
+
+fn attaches<S: MetaRead>(
+    alloc: Global,
+    draft: &mut Draft,
+    store: &mut S,
+    attached: &Attached,
+) -> Result<bool, StoreError> {
+    let (i, index, pointers, hole) = *attached;
+    attach(alloc, draft, store, Ino(i), index, BlockNo(43), pointers)?;
+    let there = block_at(alloc, draft, store, i, index)?;
+    Ok(there == 43 && block_at(alloc, draft, store, i, hole)? == 0)
+}
+
+fn are_attached<S: MetaRead>(alloc: Global, store: &mut S) -> Result<bool, StoreError> {
+    for row in ATTACHED {
+        if !attaches(alloc, &mut Draft::new(alloc), store, row)? {
+            return Ok(false);
+        }
+    }
+    Ok(true)
+}
+
+fn cuts<S: MetaRead>(
+    alloc: Global,
+    draft: &mut Draft,
+    store: &mut S,
+    row: &Cut,
+) -> Result<bool, StoreError> {
+    let (i, size, freed, index, left) = *row;
+    if size > GREATEST {
+        return Ok(false);
+    }
+    cut(alloc, draft, store, Ino(i), size)?;
+    Ok(block_at(alloc, draft, store, i, index)? == left && has_freed(draft, freed))
+}
+
+fn are_cut<S: MetaRead>(alloc: Global, store: &mut S) -> Result<bool, StoreError> {
+    for row in CUT {
+        if !cuts(alloc, &mut Draft::new(alloc), store, row)? {
+            return Ok(false);
+        }
+    }
+    Ok(true)
+}
+
+// Whether the files are read and changed as the tables say, each change in a draft of its own.
+fn are_served(alloc: Global) -> Result<bool, StoreError> {
     let mut store = PlainStore::new(&SMALLEST, image_of(alloc, MADE)?);
     let draft = Draft::new(alloc);
-    let cases: [Mapped; 9] = [
-        (3, 0, Some(38)),
-        (3, 1, None),
-        (3, 11, Some(39)),
-        (3, 12, None),
-        (3, 13, Some(41)),
-        (3, 1036, None),
-        (4, 0, Some(42)),
-        (5, 0, None),
-        (7, 0, None),
-    ];
-    for (i, index, block) in cases {
-        assert_eq!(rt;
-            map(alloc, &draft, &mut store, Ino(i), index),
-            Ok(block.map(BlockNo)),
-            "inode {i}, index {index}"
-        );
-    }
-    assert_eq!(rt; map(alloc, &draft, &mut store, Ino(40), u32::MAX), Ok(None));
-    Ok(())
+    Ok(
+        are_mapped(alloc, &draft, &mut store)?
+            && are_lacking(alloc, &draft, &mut store)?
+            && are_attached(alloc, &mut store)?
+            && are_cut(alloc, &mut store)?,
+    )
+}
+
+// The block at an index of inode 3, where the disk fails at this read.
+fn mapped_after(alloc: Global, index: u32, read: u64) -> Result<u32, StoreError> {
+    let mut store = failing(alloc, MADE, read)?;
+    block_at(alloc, &Draft::new(alloc), &mut store, 3, index)
 }
 
 #[test]
-fn blocks_lacking(rt: HostRuntime) -> Result<(), std::test::Fail> {
+fn files_read_and_changed(rt: HostRuntime) -> Result<(), std::test::Fail> {
     let alloc = rt.alloc();
-    let mut store = PlainStore::new(&SMALLEST, image_of(alloc, MADE)?);
-    let draft = Draft::new(alloc);
-    let cases: [Lacks; 7] = [
-        (3, 0, 8193, &[1, 2], 0),
-        (3, 4095, 1, &[], 0),
-        (3, 45056, 12289, &[12, 14], 0),
-        (4, 0, 49152, &[1, 2, 3, 4, 5, 6, 7, 8, 9, 10, 11], 0),
-        (4, 49151, 2, &[11, 12], 1),
-        (5, 4239360, 4096, &[1035], 1),
-        (5, 4096, 0, &[], 0),
-    ];
-    for (i, offset, count, indexes, pointers) in cases {
-        if offset > 4_243_456 || count > 4_243_456 - offset {
-            continue;
-        }
-        let needed = blocks_needed(alloc, &draft, &mut store, Ino(i), offset, count)?;
+    assert!(rt; are_served(alloc)?);
+    for (index, read, block) in FAILING {
         assert_eq!(rt;
-            (needed.indexes.as_slice(), needed.pointers),
-            (indexes, pointers),
-            "inode {i}, byte {offset}"
-        );
-    }
-    Ok(())
-}
-
-#[test]
-fn blocks_attached(rt: HostRuntime) -> Result<(), std::test::Fail> {
-    let alloc = rt.alloc();
-    let mut store = PlainStore::new(&SMALLEST, image_of(alloc, MADE)?);
-    let cases: [Attached; 5] = [
-        (3, 1, &[], 2),
-        (3, 12, &[], 14),
-        (6, 11, &[], 10),
-        (6, 12, &[BlockNo(44)], 13),
-        (6, 13, &[BlockNo(44)], 12),
-    ];
-    for (i, index, pointers, hole) in cases {
-        let mut draft = Draft::new(alloc);
-        attach(
-            alloc,
-            &mut draft,
-            &mut store,
-            Ino(i),
-            index,
-            BlockNo(43),
-            pointers,
-        )?;
-        let found = [
-            map(alloc, &draft, &mut store, Ino(i), index)?,
-            map(alloc, &draft, &mut store, Ino(i), hole)?,
-        ];
-        assert_eq!(rt;
-            found,
-            [Some(BlockNo(43)), None],
-            "inode {i}, index {index}"
-        );
-    }
-    Ok(())
-}
-
-#[test]
-fn files_cut(rt: HostRuntime) -> Result<(), std::test::Fail> {
-    let alloc = rt.alloc();
-    let mut store = PlainStore::new(&SMALLEST, image_of(alloc, MADE)?);
-    let cases: [Cut; 8] = [
-        (3, 61440, &[], 13, Some(41)),
-        (3, 57343, &[], 13, Some(41)),
-        (3, 53248, &[(41, false)], 13, None),
-        (3, 49152, &[(40, true), (41, false)], 11, Some(39)),
-        (3, 45056, &[(40, true), (39, false), (41, false)], 11, None),
-        (
-            3,
-            0,
-            &[(40, true), (38, false), (39, false), (41, false)],
-            0,
-            None,
-        ),
-        (4, 0, &[(42, false)], 0, None),
-        (6, 53248, &[], 12, None),
-    ];
-    for (i, size, freed, index, left) in cases {
-        if size > 4_243_456 {
-            continue;
-        }
-        let mut draft = Draft::new(alloc);
-        cut(alloc, &mut draft, &mut store, Ino(i), size)?;
-        let there = map(alloc, &draft, &mut store, Ino(i), index)?;
-        assert_eq!(rt; there, left.map(BlockNo), "inode {i}, size {size}");
-        let change = draft.into_change();
-        let mut found = Vec::new(alloc);
-        for f in change.freed.as_slice() {
-            found.push((f.block.0, f.meta))?;
-        }
-        assert_eq!(rt; found.as_slice(), freed, "inode {i}, size {size}");
-    }
-    Ok(())
-}
-
-// The block at an index of inode 3, where these calls of the disk fail.
-fn mapped_after(alloc: Global, index: u32, fails: &[Fail]) -> Result<Option<BlockNo>, StoreError> {
-    let disk = MemDisk::new(image_of(alloc, MADE)?, Vec::from_slice(alloc, fails)?);
-    let laid = LaidDeltas::new(alloc, &TxList::new(alloc))?;
-    if disk.sectors() < 792 {
-        return Err(StoreError::Mem);
-    }
-    let mut store = ReplayedDisk::over(disk, &SMALLEST, laid);
-    map(alloc, &Draft::new(alloc), &mut store, Ino(3), index)
-}
-
-#[test]
-fn reads_that_fail(rt: HostRuntime) -> Result<(), std::test::Fail> {
-    let alloc = rt.alloc();
-    // The pointer block is read only where the index needs it.
-    for (index, reads, block) in [(11, 1, 39), (13, 2, 41)] {
-        for n in 1..=reads {
-            assert_eq!(rt;
-                mapped_after(alloc, index, &[Fail::Read(n)]),
-                Err(StoreError::Disk),
-                "{index}, {n}"
-            );
-        }
-        assert_eq!(rt;
-            mapped_after(alloc, index, &[Fail::Read(reads + 1)]),
-            Ok(Some(BlockNo(block)))
+            mapped_after(alloc, *index, *read),
+            *block,
+            "{index}, {read}"
         );
     }
     Ok(())

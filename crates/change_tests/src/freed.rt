@@ -1,13 +1,12 @@
 //! A directory and a file, freed with their blocks in a draft.
 ghost use Rattle.std.specs.Prelude.{◌≡◌, length, IfOk};
 
-use cyl_groups::{Group, set};
+use crate::volume::{Bits, group_of, has_deltas, has_freed, has_group, inode};
 use file_map::drop_inode;
-use lufs_base::{BlockNo, DeltaKind, DiskFault, Geometry, Ino, Mem};
+use lufs_base::{BlockNo, DeltaKind, Geometry, Ino, Mem};
 use meta_draft::Draft;
-use meta_store::{MetaRead, PlainStore, StoreError};
+use meta_store::{PlainStore, StoreError};
 use std::alloc::Global;
-use std::test::Fail;
 use volume_model::Dinode;
 
 /// A volume of 163 blocks. Group 0 begins with block 35, and group 1 with block 99; an inode block and the body blocks
@@ -20,71 +19,89 @@ const OF_TWO: Geometry = Geometry {
     log: 256,
 };
 
+/// The groups: of the first inodes 0, 1 and 3 and blocks 0, 1, 5 and 6 are in use, of the second inode 2 and blocks 0, 1, 6,
+/// 7 and 8.
+const GROUPS: [Bits; 2] = [
+    (0, 29, 60, 0x0b, [0x63, 0]),
+    (1, 31, 59, 0x04, [0xc3, 0x01]),
+];
+
+/// The groups after both inodes were freed.
+const CLEARED: [Bits; 2] = [(0, 30, 62, 0x03, [0x03, 0]), (1, 32, 62, 0, [0x03, 0])];
+
+/// Inode 3: a directory in block 40.
+const DIRECTORY: Dinode = Dinode {
+    mode: 0o040755,
+    links: 1,
+    uid: 0,
+    gid: 0,
+    size: 512,
+    mtime: 1000,
+    direct: [40, 0, 0, 0, 0, 0, 0, 0, 0, 0, 0, 0],
+    indirect: [0, 0, 0],
+    blocks: 1,
+};
+
+/// Inode 34: a file, at 0 block 41, at 11 block 105, and at 13 block 107, by pointer block 106.
+const FILE: Dinode = Dinode {
+    mode: 0o100644,
+    links: 1,
+    uid: 0,
+    gid: 0,
+    size: 57_344,
+    mtime: 1000,
+    direct: [41, 0, 0, 0, 0, 0, 0, 0, 0, 0, 0, 105],
+    indirect: [106, 0, 0],
+    blocks: 4,
+};
+
 /// What is freed of an inode: the blocks, each with whether it held metadata, and the deltas that are left of the change.
-type Gone<'a> = (u32, &'a [(u32, bool)], &'a [(DeltaKind, u64)]);
+type Gone<'a> = (u32, &'a [(u32, bool)], &'a [(DeltaKind, u64, u32)]);
 
-// The group with these inodes and blocks in use.
-fn group_of(number: u32, inodes: &[u32], blocks: &[u32]) -> Group {
-    let mut inode_bits = [0; 128];
-    let mut block_bits = [0; 256];
-    let mut free_inodes: u32 = 32;
-    let mut free_blocks: u32 = 64;
-    for i in inodes {
-        if *i < 32 {
-            set(&mut inode_bits, *i);
-            free_inodes = free_inodes.saturating_sub(1);
-        }
-    }
-    for b in blocks {
-        if *b < 64 {
-            set(&mut block_bits, *b);
-            free_blocks = free_blocks.saturating_sub(1);
-        }
-    }
-    Group {
-        number,
-        free_inodes,
-        free_blocks,
-        ipg: 32,
-        bpg: 64,
-        inode_bits,
-        block_bits,
-    }
-}
+const GONE: &[Gone] = &[
+    (
+        3,
+        &[(40, true)],
+        &[
+            (DeltaKind::Group, 0x23000, 416),
+            (DeltaKind::Inode, 0x24180, 128),
+            (DeltaKind::Cancel, 0x28000, 4096),
+            (DeltaKind::Group, 0x63000, 416),
+            (DeltaKind::Inode, 0x64100, 128),
+            (DeltaKind::Pointers, 0x6a004, 4),
+        ],
+    ),
+    (
+        34,
+        &[(41, false), (106, true), (105, false), (107, false)],
+        &[
+            (DeltaKind::Group, 0x23000, 416),
+            (DeltaKind::Inode, 0x24180, 128),
+            (DeltaKind::Group, 0x63000, 416),
+            (DeltaKind::Inode, 0x64100, 128),
+            (DeltaKind::Cancel, 0x6a000, 4096),
+        ],
+    ),
+    (4, &[], UNCHANGED),
+    (64, &[], UNCHANGED),
+];
 
-// A record with so many links and bytes, these direct blocks, this pointer block, and so many blocks in all.
-fn record(mode: u16, size: u64, direct: [u32; 12], pointer: u32, blocks: u32) -> Dinode {
-    Dinode {
-        mode,
-        links: 1,
-        uid: 0,
-        gid: 0,
-        size,
-        mtime: 1000,
-        direct,
-        indirect: [pointer, 0, 0],
-        blocks,
-    }
-}
+/// The deltas of the draft before anything is freed.
+const UNCHANGED: &[(DeltaKind, u64, u32)] = &[
+    (DeltaKind::Group, 0x23000, 416),
+    (DeltaKind::Inode, 0x24180, 128),
+    (DeltaKind::Group, 0x63000, 416),
+    (DeltaKind::Inode, 0x64100, 128),
+    (DeltaKind::Pointers, 0x6a004, 4),
+];
 
-// Inode 3 is a directory in block 40. Inode 34 is a file: at 0 block 41, at 11 block 105, and at 13 block 107, by pointer
-// block 106.
-fn drafted(alloc: Global) -> Result<Draft, Mem> {
-    let mut draft = Draft::new(alloc);
-    draft.put_group(alloc, &OF_TWO, 0, &group_of(0, &[0, 1, 3], &[0, 1, 5, 6]))?;
-    draft.put_group(alloc, &OF_TWO, 1, &group_of(1, &[2], &[0, 1, 6, 7, 8]))?;
-    let directory = record(0o040755, 512, [40, 0, 0, 0, 0, 0, 0, 0, 0, 0, 0, 0], 0, 1);
-    draft.put_inode(alloc, &OF_TWO, Ino(3), Some(&directory))?;
-    let file = record(
-        0o100644,
-        57_344,
-        [41, 0, 0, 0, 0, 0, 0, 0, 0, 0, 0, 105],
-        106,
-        4,
-    );
-    draft.put_inode(alloc, &OF_TWO, Ino(34), Some(&file))?;
-    draft.put_pointers(alloc, BlockNo(106), 1, &[107])?;
-    Ok(draft)
+// Puts the groups, the two inodes and the pointer block into the draft.
+fn fill(alloc: Global, draft: &mut Draft) -> Result<(), Mem> {
+    draft.put_group(alloc, &OF_TWO, 0, &group_of(&GROUPS[0]))?;
+    draft.put_group(alloc, &OF_TWO, 1, &group_of(&GROUPS[1]))?;
+    draft.put_inode(alloc, &OF_TWO, Ino(3), Some(&DIRECTORY))?;
+    draft.put_inode(alloc, &OF_TWO, Ino(34), Some(&FILE))?;
+    draft.put_pointers(alloc, BlockNo(106), 1, &[107])
 }
 
 fn image_of(alloc: Global) -> Result<Vec<u8>, Mem>
@@ -93,105 +110,60 @@ fn image_of(alloc: Global) -> Result<Vec<u8>, Mem>
     Ok(vec![in alloc; 0u8; 667_648]?)
 }
 
-// The blocks freed, and the kinds and homes of the deltas.
-fn gone(alloc: Global, draft: &Draft) -> Result<(Vec<(u32, bool)>, Vec<(DeltaKind, u64)>), Mem> {
-    let mut blocks = Vec::new(alloc);
-    for freed in draft.change.freed.as_slice() {
-        blocks.push((freed.block.0, freed.meta))?;
-    }
-    let mut deltas = Vec::new(alloc);
-    for delta in draft.change.deltas.as_slice() {
-        deltas.push((delta.kind, delta.home))?;
-    }
-    Ok((blocks, deltas))
-}
-
-// The same after inode i was freed.
-fn gone_with(
+// Whether freeing the inode leaves this of the change.
+fn goes(
     alloc: Global,
+    draft: &mut Draft,
+    store: &mut PlainStore,
+    gone: &Gone,
+) -> Result<bool, StoreError> {
+    let (i, blocks, deltas) = *gone;
+    fill(alloc, draft)?;
+    drop_inode(alloc, draft, store, Ino(i))?;
+    Ok(has_freed(draft, blocks) && has_deltas(draft, deltas))
+}
+
+fn are_gone(alloc: Global, store: &mut PlainStore) -> Result<bool, StoreError> {
+    for gone in GONE {
+        if !goes(alloc, &mut Draft::new(alloc), store, gone)? {
+            return Ok(false);
+        }
+    }
+    Ok(true)
+}
+
+fn drops(
+    alloc: Global,
+    draft: &mut Draft,
+    store: &mut PlainStore,
     i: u32,
-) -> Result<(Vec<(u32, bool)>, Vec<(DeltaKind, u64)>), StoreError> {
+) -> Result<bool, StoreError> {
+    drop_inode(alloc, draft, store, Ino(i))?;
+    Ok(inode(draft, store, i)?.is_none())
+}
+
+// Whether both inodes are freed, and their bits and those of their blocks cleared.
+fn are_cleared(
+    alloc: Global,
+    draft: &mut Draft,
+    store: &mut PlainStore,
+) -> Result<bool, StoreError> {
+    fill(alloc, draft)?;
+    Ok(
+        drops(alloc, draft, store, 34)?
+            && drops(alloc, draft, store, 3)?
+            && has_group(draft, store, &CLEARED[0])?
+            && has_group(draft, store, &CLEARED[1])?,
+    )
+}
+
+fn are_freed(alloc: Global) -> Result<bool, StoreError> {
     let mut store = PlainStore::new(&OF_TWO, image_of(alloc)?);
-    let mut draft = drafted(alloc)?;
-    drop_inode(alloc, &mut draft, &mut store, Ino(i))?;
-    let seen = gone(alloc, &draft)?;
-    Ok(seen)
-}
-
-// Reads an inode, if the volume has it.
-fn inode<S: MetaRead>(draft: &Draft, store: &mut S, i: u32) -> Result<Option<Dinode>, DiskFault> {
-    let g = *store.geometry();
-    if i >= g.groups * g.ipg {
-        return Ok(None);
-    }
-    draft.inode(store, Ino(i))
-}
-
-// Reads a group, if the volume has it.
-fn group<S: MetaRead>(draft: &Draft, store: &mut S, n: u32) -> Result<Option<Group>, DiskFault> {
-    if n >= store.geometry().groups {
-        return Ok(None);
-    }
-    draft.group(store, n)
-}
-
-/// The groups and the inodes of the draft.
-const RECORDS: [(DeltaKind, u64); 4] = [
-    (DeltaKind::Group, 0x23000),
-    (DeltaKind::Inode, 0x24180),
-    (DeltaKind::Group, 0x63000),
-    (DeltaKind::Inode, 0x64100),
-];
-
-#[test]
-fn inodes_freed(rt: HostRuntime) -> Result<(), Fail> {
-    let alloc = rt.alloc();
-    let [first, directory, second, file] = RECORDS;
-    let pointers = (DeltaKind::Pointers, 0x6a004);
-    let cases: [Gone; 4] = [
-        (
-            3,
-            &[(40, true)],
-            &[
-                first,
-                directory,
-                (DeltaKind::Cancel, 0x28000),
-                second,
-                file,
-                pointers,
-            ],
-        ),
-        (
-            34,
-            &[(41, false), (106, true), (105, false), (107, false)],
-            &[first, directory, second, file, (DeltaKind::Cancel, 0x6a000)],
-        ),
-        (4, &[], &[first, directory, second, file, pointers]),
-        (64, &[], &[first, directory, second, file, pointers]),
-    ];
-    for (i, blocks, deltas) in cases {
-        let (got, left) = gone_with(alloc, i)?;
-        assert_eq!(rt; got.as_slice(), blocks, "blocks of inode {i}");
-        assert_eq!(rt; left.as_slice(), deltas, "deltas of inode {i}");
-    }
-    Ok(())
+    Ok(are_gone(alloc, &mut store)? && are_cleared(alloc, &mut Draft::new(alloc), &mut store)?)
 }
 
 #[test]
-fn bits_cleared(rt: HostRuntime) -> Result<(), Fail> {
-    let alloc = rt.alloc();
-    let mut store = PlainStore::new(&OF_TWO, image_of(alloc)?);
-    let mut draft = drafted(alloc)?;
-    for i in [34, 3] {
-        drop_inode(alloc, &mut draft, &mut store, Ino(i))?;
-        assert_eq!(rt; inode(&draft, &mut store, i)?, None, "inode {i}");
-    }
-    for (n, inodes, blocks) in [(0, &[0, 1][..], &[0, 1][..]), (1, &[], &[0, 1])] {
-        assert_eq!(rt;
-            group(&draft, &mut store, n)?,
-            Some(group_of(n, inodes, blocks)),
-            "group {n}"
-        );
-    }
+fn inodes_freed(rt: HostRuntime) -> Result<(), std::test::Fail> {
+    assert!(rt; are_freed(rt.alloc())?);
     Ok(())
 }

@@ -2,7 +2,7 @@
 use Rattle.std.proofs.Common.{◌≡◌, ◌≢◌, ℕ, ◌*◌, ◌/◌, ◌%◌, ◌^◌, ◌<◌, List, length, slice_index, slice_set, eqb, inl, inr, sym, ap, ◌∙◌, arith}
 use Rattle.std.proofs.lemmas.List.{get_or-set_same, get_or-set_other}
 use Rattle.std.proofs.lemmas.Bool.{cases_eq}
-use Rattle.cyl_groups.specs.Bits.{HasBitPut}
+use Rattle.volume_model.specs.Format.{HasBit}
 
 -- bit k of a byte
 abbrev bit_of : ℕ → ℕ → ℕ
@@ -11,7 +11,7 @@ bit_of x k = x / 2 ^ k % 2
 -- A byte that differs in one bit only, in the place of the byte with that bit.
 pub byte_put : (bits : List ℕ) (i x value : ℕ) → i < 8 * length bits → bit_of x (i % 8) ≡ value
     → ((k : ℕ) → k < 8 → k ≢ i % 8 → bit_of x k ≡ bit_of (slice_index bits (i / 8)) k)
-    → HasBitPut i (eqb value 1) bits (slice_set bits (i / 8) x)
+    → HasBit i (eqb value 1) bits (slice_set bits (i / 8) x)
 byte_put bits i x value fits here there = record {
   bit =
       ap (λ (b : ℕ). eqb (bit_of b (i % 8)) 1) (get_or-set_same bits (i / 8) x 0 (omega arith)) ∙ ap (λ (b : ℕ). eqb b 1) here;

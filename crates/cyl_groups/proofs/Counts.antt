@@ -1,8 +1,7 @@
 -- How the number of clear bits follows a change of one bit.
 use Rattle.std.proofs.Common.{◌≡◌, ℕ, zero, suc, ◌+◌, ◌<◌, ◌≤◌, Bool, true, false, if◌then◌else◌, List, inl, inr, refl, sym, ap, ◌∙◌, arith}
 use Rattle.std.proofs.lemmas.Bool.{cases_eq}
-use Rattle.volume_model.specs.Format.{bit_at, clear_bits}
-use Rattle.cyl_groups.specs.Bits.{HasBitPut}
+use Rattle.volume_model.specs.Format.{bit_at, clear_bits, HasBit}
 
 counts_one : (a n : ℕ) (b : Bool) → a ≤ n → a + (if b then 0 else 1) ≤ suc n
 counts_one a n true below = omega arith
@@ -28,7 +27,7 @@ clear_bits-le bits zero = omega arith
 clear_bits-le bits (suc n) = counts_one (clear_bits bits n) n (bit_at bits n) (clear_bits-le bits n)
 
 -- the bits before the one that changed count as they did
-same_before : (i n : ℕ) (value : Bool) (old new : List ℕ) → HasBitPut i value old new → n ≤ i → clear_bits new n ≡ clear_bits old n
+same_before : (i n : ℕ) (value : Bool) (old new : List ℕ) → HasBit i value old new → n ≤ i → clear_bits new n ≡ clear_bits old n
 unfolding clear_bits
 same_before i zero value old new put below = refl
 same_before i (suc n) value old new put below =
@@ -36,7 +35,7 @@ same_before i (suc n) value old new put below =
     (put.others n (λ same. omega arith))
 
 -- a clear bit that was set counts no more
-pub one_less : (i n : ℕ) (old new : List ℕ) → HasBitPut i true old new → bit_at old i ≡ false → i < n
+pub one_less : (i n : ℕ) (old new : List ℕ) → HasBit i true old new → bit_at old i ≡ false → i < n
     → clear_bits new n + 1 ≡ clear_bits old n
 unfolding clear_bits
 one_less i zero old new put was below = absurd (omega arith)
@@ -50,7 +49,7 @@ one_less i (suc n) old new put was below = elim (cases_eq n i) [
 ]
 
 -- a set bit that was cleared counts one more
-pub one_more : (i n : ℕ) (old new : List ℕ) → HasBitPut i false old new → bit_at old i ≡ true → i < n
+pub one_more : (i n : ℕ) (old new : List ℕ) → HasBit i false old new → bit_at old i ≡ true → i < n
     → clear_bits new n ≡ clear_bits old n + 1
 one_more i n old new put was below =
     sym (one_less i n new old record { bit = was; others = λ j apart. sym (put.others j apart) } put.bit below)

@@ -1,7 +1,7 @@
 //! Bits in a slice of bytes: tested, searched, set and cleared.
 ghost use Rattle.std.specs.Prelude.{◌≡◌, ◌<◌, ◌≤◌, ◌*◌, length, true, false};
-ghost use Rattle.volume_model.specs.Format.{bit_at, are_set};
-ghost use Rattle.cyl_groups.specs.Bits.{IsFirstClear, HasBitPut};
+ghost use Rattle.volume_model.specs.Format.{bit_at, are_set, HasBit};
+ghost use Rattle.cyl_groups.specs.Bits.{IsFirstClear};
 
 /// Whether bit `i` is set.
 pub fn is_set(bits: &[u8], i: u32) -> bool
@@ -30,7 +30,7 @@ pub fn first_clear(bits: &[u8], from: u32, end: u32) -> Option<u32>
 /// Sets bit `i`.
 pub fn set(bits: &mut [u8], i: u32)
     requires { i < 8 * length bits.old }
-    ensures { HasBitPut i true bits.old bits.new }
+    ensures { HasBit i true bits.old bits.new }
 {
     bits[(i / 8) as usize] |= 1 << (i % 8);
 }
@@ -38,7 +38,7 @@ pub fn set(bits: &mut [u8], i: u32)
 /// Clears bit `i`.
 pub fn clear(bits: &mut [u8], i: u32)
     requires { i < 8 * length bits.old }
-    ensures { HasBitPut i false bits.old bits.new }
+    ensures { HasBit i false bits.old bits.new }
 {
     bits[(i / 8) as usize] &= !(1 << (i % 8));
 }

@@ -26,8 +26,8 @@ pub struct Group {
 
 impl Group {
     ghost use Rattle.std.specs.Prelude.{◌≡◌, ◌+◌, ◌<◌, true, false};
-    ghost use Rattle.volume_model.specs.Format.{bit_at};
-    ghost use Rattle.cyl_groups.specs.Bits.{IsFirstClear, HasBitPut};
+    ghost use Rattle.volume_model.specs.Format.{bit_at, HasBit};
+    ghost use Rattle.cyl_groups.specs.Bits.{IsFirstClear};
     ghost use Rattle.cyl_groups.specs.Group.{IsCounted, OnlyInodes, OnlyBlocks};
 
     /// The first inode of the group that is not in use, if there is one.
@@ -49,7 +49,7 @@ impl Group {
         requires range { i < self.old.ipg }
         requires free { bit_at self.old.inode_bits i ≡ false }
         requires counted { IsCounted self.old }
-        ensures bit { HasBitPut i true self.old.inode_bits self.new.inode_bits }
+        ensures bit { HasBit i true self.old.inode_bits self.new.inode_bits }
         ensures count { self.new.free_inodes + 1 ≡ self.old.free_inodes }
         ensures counted { IsCounted self.new }
         ensures others { OnlyInodes self.old self.new }
@@ -63,7 +63,7 @@ impl Group {
         requires range { i < self.old.ipg }
         requires used { bit_at self.old.inode_bits i ≡ true }
         requires counted { IsCounted self.old }
-        ensures bit { HasBitPut i false self.old.inode_bits self.new.inode_bits }
+        ensures bit { HasBit i false self.old.inode_bits self.new.inode_bits }
         ensures count { self.new.free_inodes ≡ self.old.free_inodes + 1 }
         ensures counted { IsCounted self.new }
         ensures others { OnlyInodes self.old self.new }
@@ -77,7 +77,7 @@ impl Group {
         requires range { i < self.old.bpg }
         requires free { bit_at self.old.block_bits i ≡ false }
         requires counted { IsCounted self.old }
-        ensures bit { HasBitPut i true self.old.block_bits self.new.block_bits }
+        ensures bit { HasBit i true self.old.block_bits self.new.block_bits }
         ensures count { self.new.free_blocks + 1 ≡ self.old.free_blocks }
         ensures counted { IsCounted self.new }
         ensures others { OnlyBlocks self.old self.new }
@@ -91,7 +91,7 @@ impl Group {
         requires range { i < self.old.bpg }
         requires used { bit_at self.old.block_bits i ≡ true }
         requires counted { IsCounted self.old }
-        ensures bit { HasBitPut i false self.old.block_bits self.new.block_bits }
+        ensures bit { HasBit i false self.old.block_bits self.new.block_bits }
         ensures count { self.new.free_blocks ≡ self.old.free_blocks + 1 }
         ensures counted { IsCounted self.new }
         ensures others { OnlyBlocks self.old self.new }

@@ -24,7 +24,7 @@ use Rattle.change_laws.proofs.ChunkSteps.{number_there}
 use Rattle.change_laws.proofs.OneInode.{used_changed}
 use Rattle.dir_blocks.proofs.WrittenSlots.{chunk_read_back_of}
 use Rattle.meta_store.specs.declared.change.Change.{Change}
-use Rattle.meta_draft.specs.Deltas.{chunk_delta}
+use Rattle.meta_store.specs.Deltas.{chunk_delta}
 use Rattle.meta_draft.specs.Drafted.{drafted_blocks, with_delta}
 use Rattle.meta_store.specs.Merged.{merged}
 use Rattle.meta_store.specs.Suited.{suits_claims}

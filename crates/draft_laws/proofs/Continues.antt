@@ -29,7 +29,7 @@ use Rattle.meta_draft.specs.Drafted.{drafted_blocks}
 use Rattle.draft_laws.specs.Follows.{is_loose, FollowsSoFar}
 use Rattle.draft_laws.specs.Drafts.{IsDraft}
 use Rattle.draft_laws.proofs.ClaimUses.{claim_of, passes_of, some_passes, suits_by_claim, stays_so, grows_so}
-use Rattle.draft_laws.proofs.SuitedBeside.{Fits, SuitsRecords, where_suited, no_body}
+use Rattle.draft_laws.proofs.SuitedBeside.{SuitsRecords, where_suited, no_body, Suitable}
 use Rattle.draft_laws.proofs.MetadataLengths.{claim_some, at_most_a_block}
 
 -- the claim is there after, as the same, and as long or longer
@@ -194,7 +194,7 @@ module _ (g : Geometry) (base : Image) (taken : ℕ → Bool) (change : Change) 
   loose_free : (b : ℕ) → is_loose before after b ≡ true → (is_body g b ≡ true) × (is_claimed s b ≡ false)
   loose_free b loose = held_free g s after stored b (and_parts (is_claimed before b) (is_among b (held_blocks after)) loose).1
 
-  fits_each : (e : Delta) → Contains change.deltas e → Fits g s e × IsSuited e
+  fits_each : (e : Delta) → Contains change.deltas e → Suitable g s e × IsSuited e
   fits_each e here =
       let b = e.home / 4096 in
       elim (cases_Bool (is_loose before after b)) [
@@ -256,7 +256,7 @@ module _ (g : Geometry) (base : Image) (taken : ℕ → Bool) (change : Change) 
     | inr found ↦ not_held b (sym (ap (is_claimed s) found.block) ∙ claims_its_block s found.claim found.among)
   ]
 
-  pub all_fit : All (Fits g s) change.deltas
+  pub all_fit : All (Suitable g s) change.deltas
   all_fit k d inside = (fits_each (slice_index_or change.deltas k d) (Contains-get_or change.deltas k d inside)).0
 
   pub all_suited : All IsSuited change.deltas

@@ -23,7 +23,7 @@ use Rattle.change_laws.proofs.NumberReads.{same_pointers, same_numbers}
 use Rattle.meta_store.specs.declared.change.Change.{Change}
 use Rattle.meta_store.specs.Merged.{merged}
 use Rattle.meta_store.proofs.MergedTable.{IsLoggable}
-use Rattle.meta_draft.specs.Deltas.{inode_delta}
+use Rattle.meta_store.specs.Deltas.{inode_delta}
 use Rattle.meta_draft.specs.Drafted.{drafted_blocks, with_delta}
 use Rattle.draft_laws.specs.Laying.{with_laid}
 use Rattle.draft_laws.specs.Drafts.{IsDraft, Draws}

@@ -31,7 +31,7 @@ use Rattle.change_laws.proofs.OneInode.{used_changed}
 use Rattle.dir_blocks.proofs.WrittenSlots.{chunk_read_back_of}
 use Rattle.meta_store.specs.declared.change.Change.{Change}
 use Rattle.meta_store.proofs.MergedTable.{IsLoggable}
-use Rattle.meta_draft.specs.Deltas.{inode_delta, chunk_delta, zero_delta, pointers_delta}
+use Rattle.meta_store.specs.Deltas.{inode_delta, chunk_delta, zero_delta, pointers_delta}
 use Rattle.meta_draft.specs.Drafted.{drafted_blocks, with_delta}
 use Rattle.meta_store.specs.Suited.{suits_claims}
 use Rattle.draft_laws.specs.Laying.{with_laid}

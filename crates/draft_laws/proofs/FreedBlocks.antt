@@ -25,7 +25,7 @@ use Rattle.meta_store.proofs.LaidBlocks.{block_laid_over}
 use Rattle.meta_store.proofs.MergedTable.{IsLoggable}
 use Rattle.meta_store.proofs.MergedOrder.{merged_are_loggable}
 use Rattle.meta_store.proofs.MergeSteps.{merged_all}
-use Rattle.meta_draft.specs.Deltas.{cancel_delta}
+use Rattle.meta_store.specs.Deltas.{cancel_delta}
 use Rattle.meta_draft.specs.Drafted.{drafted_blocks, with_freed}
 use Rattle.draft_laws.specs.Freeing.{with_all_freed}
 use Rattle.draft_laws.specs.Drafts.{IsRecorded}
@@ -33,8 +33,8 @@ use Rattle.draft_laws.proofs.Cancels.{cancels_at, cancels_beside, cancels_there}
 use Rattle.draft_laws.proofs.Given.{given_still}
 use Rattle.draft_laws.proofs.MergedElsewhere.{merged_elsewhere, merged_whole, each_beside}
 use Rattle.draft_laws.proofs.RecordDeltas.{body_table}
-use Rattle.draft_laws.proofs.SuitedBeside.{Fits}
 use Rattle.draft_laws.proofs.Merging.{by_place, FitsAt}
+use Rattle.draft_laws.proofs.SuitedBeside.{Suitable}
 
 cancel_own : (g : Geometry) (b : ℕ) → is_body g b ≡ true → IsLoggable g (cancel_delta b)
 cancel_own g b body = record { table = body_table g Cancel (4096 * b) b 0 4096 refl body (omega arith) (omega arith) refl; bytes = refl }
@@ -55,7 +55,7 @@ pub record MayFree (g : Geometry) (before s : Reading) (f : Freed) : Type 0 wher
 
 pub record WellSoFar (g : Geometry) (before s : Reading) (loose : ℕ → Bool) (rest : List ℕ) (change : Change) : Type 0 where
   pub recorded : IsRecorded g change
-  pub fits : All (Fits g s) change.deltas
+  pub fits : All (Suitable g s) change.deltas
   pub well : All (IsWell g before s loose rest) change.deltas
 
 -- what freeing leaves
@@ -140,7 +140,7 @@ module _ (g : Geometry) (base : Image) (before s : Reading) (loose : ℕ → Boo
           let there : FitsAt g s Cancel ((4096 * b) / 4096) = subst (λ (c : ℕ). FitsAt g s Cancel c) (sym (cancel_at b)) (inr (may.body, may.free)) in (
             record {
               recorded = record { deltas = merged_are_loggable g change.deltas d so.recorded.deltas own; cancels = cancels_now; raw = so.recorded.raw };
-              fits = merged_all (Fits g s) (λ x older is its _. by_place (FitsAt g s) x older is its) change.deltas d so.fits there;
+              fits = merged_all (Suitable g s) (λ x older is its _. by_place (FitsAt g s) x older is its) change.deltas d so.fits there;
               well = merged_whole (IsWell g before s loose rest) d refl (inl refl) change.deltas so.recorded.deltas.order
                   (All-weaker (IsWell g before s loose (b ∷ rest)) (λ e. (e.home / 4096 ≡ d.home / 4096 → ⊥) → IsWell g before s loose rest e)
                   (λ e its away. tail_well g before s loose b rest e (λ same. away (same ∙ sym (cancel_at b))) its) change.deltas so.well);

@@ -21,7 +21,7 @@ use Rattle.change_laws.proofs.Counts.{among_counted}
 use Rattle.change_laws.proofs.SameHands.{stored_same}
 use Rattle.meta_store.specs.declared.change.Change.{Change}
 use Rattle.meta_store.specs.Merged.{merged}
-use Rattle.meta_draft.specs.Deltas.{inode_delta}
+use Rattle.meta_store.specs.Deltas.{inode_delta}
 use Rattle.meta_draft.specs.Drafted.{drafted_blocks, with_delta}
 use Rattle.draft_laws.specs.Laying.{with_laid}
 use Rattle.draft_laws.specs.Follows.{is_loose, FollowsSoFar}

@@ -37,14 +37,14 @@ use Rattle.meta_store.specs.Changes.{frees, frees_metadata}
 use Rattle.meta_store.specs.Conditions.{HasBitsOf, is_given, StaysClaimed, ComesClaimed, IsGivenUp}
 use Rattle.meta_store.specs.Suited.{suits_claim, suits_block, suits}
 use Rattle.meta_store.proofs.MergedTable.{IsLoggable}
-use Rattle.meta_draft.specs.Deltas.{group_delta}
+use Rattle.meta_store.specs.Deltas.{group_delta}
 use Rattle.meta_draft.specs.Drafted.{drafted_blocks, with_delta, with_freed}
 use Rattle.draft_laws.specs.Laying.{with_laid}
 use Rattle.draft_laws.specs.Follows.{is_loose, FollowsSoFar}
 use Rattle.draft_laws.specs.Drafts.{IsDraft}
 use Rattle.draft_laws.specs.Freeing.{with_all_freed, GivesUp, KeepsTree}
 use Rattle.draft_laws.proofs.ClaimUses.{passes_of, some_passes, claim_of, kinds_by_claims}
-use Rattle.draft_laws.proofs.SuitedBeside.{Fits, where_suited, no_body}
+use Rattle.draft_laws.proofs.SuitedBeside.{where_suited, no_body, Suitable}
 use Rattle.draft_laws.proofs.MetadataLengths.{suited_some, at_most_a_block}
 use Rattle.draft_laws.proofs.Continues.{bit_says, held_free, none_of_free, freed_metadata}
 use Rattle.draft_laws.proofs.Contents.{AreSized, drafted_sized, agree_but, agree_through, there}
@@ -189,7 +189,7 @@ module _ (g : Geometry) (base : Image) (taken : ℕ → Bool) (change : Change) 
   loose_before b claimed = ap (λ (x : Bool). x && is_among b (held_blocks (hand ∷ hands))) claimed ∙ held_parts b
 
   -- the deltas before any block is freed
-  each_delta : (e : Delta) → Contains change.deltas e → Fits g t e × IsWell g before t loose (map (λ f. f.block.0) freed) e
+  each_delta : (e : Delta) → Contains change.deltas e → Suitable g t e × IsWell g before t loose (map (λ f. f.block.0) freed) e
   each_delta e here =
       let b = e.home / 4096 in
       elim (cases_Bool (is_loose before (hand ∷ hands) b)) [

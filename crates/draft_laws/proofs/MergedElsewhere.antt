@@ -5,8 +5,7 @@ use Rattle.std.specs.List.{filter}
 use Rattle.std.proofs.lemmas.Bool.{cases_Bool, true≢false, cond-true, cond-false, and_left, ne_eqb, eq-eqb, ltb-true}
 use Rattle.std.proofs.lemmas.List.Elements.{All-nil, All-cons, All-head, All-tail}
 use Rattle.lufs_base.specs.declared.delta.Delta.{Delta}
-use Rattle.volume_model.specs.Log.{may_precede, is_cancel}
-use Rattle.meta_store.specs.Laid.{lays_on}
+use Rattle.volume_model.specs.Log.{may_precede, is_cancel, lays_on}
 use Rattle.meta_store.specs.Merged.{is_whole_block, share_block, meets, replaces, replacing, joined, stands_beside, placed, merged}
 use Rattle.meta_store.proofs.MergeSteps.{placed_last, placed_replaced, placed_before, placed_after, merged_is, replaced_in_block}
 use Rattle.meta_store.proofs.MergedOrder.{homes_rise}

@@ -28,12 +28,12 @@ use Rattle.meta_draft.proofs.LaidTogether.{laid_together}
 use Rattle.draft_laws.proofs.OneLaid.{blocks_with, length-changed}
 use Rattle.draft_laws.proofs.Given.{given_still, given_new}
 use Rattle.draft_laws.proofs.Cancels.{kind_replacing, block_replacing, cancels_kept}
-use Rattle.draft_laws.proofs.SuitedBeside.{Fits, suited_beside, no_cancel_there}
+use Rattle.draft_laws.proofs.SuitedBeside.{suited_beside, no_cancel_there, Suitable}
 
 -- the deltas of the change may be logged, fit the reading, and suit it but on loose blocks
 pub record FitsIn (g : Geometry) (before s : Reading) (loose : ℕ → Bool) (change : Change) : Type 0 where
   pub recorded : IsRecorded g change
-  pub fits : All (Fits g s) change.deltas
+  pub fits : All (Suitable g s) change.deltas
   pub suited : All (λ e. loose (e.home / 4096) ≡ false → suits g s e ≡ true) change.deltas
   pub loosened : All (λ e. loose (e.home / 4096) ≡ true → suits g before e ≡ true) change.deltas
   -- no delta may lie on a loose block
@@ -67,9 +67,9 @@ one_more g base s loose change d room laid fit own lays fitting =
     let whole : 4096 * blocks_of g ≤ length base = omega (arith, room) in
     let size = length-changed g base change whole fit.recorded.raw in
     let beside : All (λ older. stands_beside d older ≡ true) change.deltas =
-    All-weaker (Fits g s) (λ older. stands_beside d older ≡ true) (λ older its. suited_beside g s d older laid fitting its) change.deltas fit.fits in
+    All-weaker (Suitable g s) (λ older. stands_beside d older ≡ true) (λ older its. suited_beside g s d older laid fitting its) change.deltas fit.fits in
     let apart : All (λ e. is_cancel e.kind ≡ true → e.home / 4096 ≡ d.home / 4096 → ⊥) change.deltas =
-    All-weaker (Fits g s) (λ e. is_cancel e.kind ≡ true → e.home / 4096 ≡ d.home / 4096 → ⊥) (λ e its. no_cancel_there g s d e laid fitting its) change.deltas fit.fits in
+    All-weaker (Suitable g s) (λ e. is_cancel e.kind ≡ true → e.home / 4096 ≡ d.home / 4096 → ⊥) (λ e its. no_cancel_there g s d e laid fitting its) change.deltas fit.fits in
     record {
       next = record {
         recorded = record {
@@ -77,7 +77,7 @@ one_more g base s loose change d room laid fit own lays fitting =
           cancels = λ b. cancels_kept change.deltas d b lays apart ∙ fit.recorded.cancels b;
           raw = fit.recorded.raw;
         };
-        fits = merged_all (Fits g s) (λ x older is its _. by_place (FitsAt g s) x older is its) change.deltas d fit.fits (inl fitting);
+        fits = merged_all (Suitable g s) (λ x older is its _. by_place (FitsAt g s) x older is its) change.deltas d fit.fits (inl fitting);
         suited = merged_all (λ e. loose (e.home / 4096) ≡ false → suits g s e ≡ true) (λ x older is its _. by_place (SuitsAt g s loose) x older is its) change.deltas d fit.suited
             (λ _. or_right (is_cancel d.kind) (suits_block g s d.kind (d.home / 4096)) fitting);
         loosened = merged_all (λ e. loose (e.home / 4096) ≡ true → suits g before e ≡ true) (λ x older is its _. by_place (SuitedAt g before loose) x older is its) change.deltas d fit.loosened

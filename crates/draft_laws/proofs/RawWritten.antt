@@ -13,7 +13,7 @@ use Rattle.lufs_base.specs.declared.delta.DeltaKind.TheVariants.{Chunk}
 use Rattle.volume_model.specs.declared.hand.Hand.{Hand}
 use Rattle.volume_model.specs.Format.{Image, Blocks, block, is_body, is_file}
 use Rattle.volume_model.specs.Crash.{image_after}
-use Rattle.volume_model.specs.Log.{is_cancel}
+use Rattle.volume_model.specs.Log.{is_cancel, lays_on}
 use Rattle.volume_model.specs.Sound.{UsedInode, Reading, reading_of, used_at, Claim, index_claim, claims_of, is_claimed, IsLaid, IsStored, held_blocks, is_among, metadata_length, read_length, FileNode, File, with_node, file_block, tree_of}
 use Rattle.volume_laws.specs.Changes.{AgreeBut, AgreeWhereReadBut, with_block}
 use Rattle.volume_laws.proofs.ClaimFacts.{claims_its_block, index_claimed}
@@ -29,7 +29,7 @@ use Rattle.change_laws.specs.Plans.{HasInode}
 use Rattle.change_laws.proofs.Places.{body_inside}
 use Rattle.meta_store.specs.declared.change.Change.{Change}
 use Rattle.meta_store.specs.declared.change.RawWrite.{RawWrite}
-use Rattle.meta_store.specs.Laid.{laid_block, lays_on}
+use Rattle.meta_store.specs.Laid.{laid_block}
 use Rattle.meta_store.specs.Changes.{writes_of, deltas_on, frees}
 use Rattle.meta_store.specs.Conditions.{IsInBlock}
 use Rattle.meta_store.specs.Suited.{suits_block}

@@ -20,7 +20,7 @@ use Rattle.volume_laws.proofs.SameReading.{group_record_block, inode_record_bloc
 use Rattle.dir_blocks.proofs.WrittenSlots.{length-slots}
 use Rattle.meta_store.proofs.MergedTable.{IsLoggable}
 use Rattle.meta_store.specs.Suited.{suits_block}
-use Rattle.meta_draft.specs.Deltas.{group_delta, inode_delta, chunk_delta, pointers_delta, zero_delta, text_delta}
+use Rattle.meta_store.specs.Deltas.{group_delta, inode_delta, chunk_delta, pointers_delta, zero_delta, text_delta}
 
 pub table_of : (g : Geometry) (kind : DeltaKind) (home len : ℕ) → nat_lt (home / 4096) (blocks_of g) ≡ true → is_home_of kind (region_of g (home / 4096)) ≡ true
     → is_part_of_block kind (home % 4096) len ≡ true → may_be_logged g kind home len ≡ true

@@ -11,7 +11,7 @@ use Rattle.volume_laws.specs.Changes.{with_state}
 use Rattle.volume_laws.proofs.ClaimFacts.{length-inodes, used_within, claimed_in, claims_its_block}
 use Rattle.change_laws.specs.Plans.{HasInode, KeepsBlocks, with_attributes}
 use Rattle.meta_store.specs.declared.change.Change.{Change}
-use Rattle.meta_draft.specs.Deltas.{inode_delta}
+use Rattle.meta_store.specs.Deltas.{inode_delta}
 use Rattle.meta_draft.specs.Drafted.{drafted_blocks, with_delta}
 use Rattle.meta_store.specs.Merged.{merged}
 use Rattle.draft_laws.specs.Laying.{with_laid}

@@ -144,8 +144,8 @@ module _ (g : Geometry) (r : Reading) (laid : IsLaid g r) where
   ]
 
 -- the delta suits its block; or that is a body block which no inode claims
-abbrev pub Fits : Geometry → Reading → Delta → Type 0
-Fits g r d = (suits_block g r d.kind (d.home / 4096) ≡ true) ⊎ ((is_body g (d.home / 4096) ≡ true) × (is_claimed r (d.home / 4096) ≡ false))
+abbrev pub Suitable : Geometry → Reading → Delta → Type 0
+Suitable g r d = (suits_block g r d.kind (d.home / 4096) ≡ true) ⊎ ((is_body g (d.home / 4096) ≡ true) × (is_claimed r (d.home / 4096) ≡ false))
 
 zero_is_whole : (kind : DeltaKind) → is_zero_block kind ≡ true → is_whole_block kind ≡ true
 zero_is_whole kind is = ap (λ (t : Bool). t || is_cancel kind) is
@@ -176,7 +176,7 @@ not_excluded d older why =
     ] in
     ap not out
 
-pub suited_beside : (g : Geometry) (r : Reading) (d older : Delta) → IsLaid g r → suits_block g r d.kind (d.home / 4096) ≡ true → Fits g r older → stands_beside d older ≡ true
+pub suited_beside : (g : Geometry) (r : Reading) (d older : Delta) → IsLaid g r → suits_block g r d.kind (d.home / 4096) ≡ true → Suitable g r older → stands_beside d older ≡ true
 suited_beside g r d older laid suits fits = elim (cases_Bool (eqb (d.home / 4096) (older.home / 4096))) [
   | inr apart ↦ beside_apart d older apart
   | inl shared ↦
@@ -192,7 +192,7 @@ suited_beside g r d older laid suits fits = elim (cases_Bool (eqb (d.home / 4096
 ]
 
 -- no cancel lies on the block
-pub no_cancel_there : (g : Geometry) (r : Reading) (d older : Delta) → IsLaid g r → suits_block g r d.kind (d.home / 4096) ≡ true → Fits g r older
+pub no_cancel_there : (g : Geometry) (r : Reading) (d older : Delta) → IsLaid g r → suits_block g r d.kind (d.home / 4096) ≡ true → Suitable g r older
     → is_cancel older.kind ≡ true → older.home / 4096 ≡ d.home / 4096 → ⊥
 no_cancel_there g r d older laid suits fits cancel same = elim fits [
   | inl its ↦ not_suited g r older.kind (older.home / 4096) cancel its

@@ -7,7 +7,7 @@ use Rattle.volume_model.specs.Format.{Blocks, inodes_of, dinode_of, dinode_bytes
 use Rattle.volume_model.specs.Sound.{reading_of, read_length}
 use Rattle.volume_laws.proofs.InodeRecords.{inode_back, free_back}
 use Rattle.change_laws.specs.Plans.{WritesRecord}
-use Rattle.meta_draft.specs.Deltas.{inode_delta}
+use Rattle.meta_store.specs.Deltas.{inode_delta}
 use Rattle.draft_laws.specs.Laying.{with_laid}
 use Rattle.draft_laws.proofs.Contents.{AreSized, agree_but, agree_through, there}
 use Rattle.draft_laws.proofs.RecordDeltas.{IsRecord, inode_loggable}

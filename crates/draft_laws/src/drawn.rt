@@ -8,7 +8,7 @@ ghost use Rattle.volume_model.specs.Format.{Image, is_file, is_directory, is_lin
 ghost use Rattle.volume_model.specs.Sound.{UsedInode, DirectoryNode, Node, File, Directory, Link, attributes_of};
 ghost use Rattle.change_laws.specs.Plans.{HasInode, KeepsBlocks, HasJustBlocks, HoldMore, with_attributes};
 ghost use Rattle.meta_store.specs.declared.change.Change.{Change};
-ghost use Rattle.meta_draft.specs.Deltas.{inode_delta, chunk_delta, zero_delta, text_delta};
+ghost use Rattle.meta_store.specs.Deltas.{inode_delta, chunk_delta, zero_delta, text_delta};
 ghost use Rattle.meta_draft.specs.Drafted.{drafted_blocks, with_delta};
 ghost use Rattle.draft_laws.specs.Drafts.{IsDraft, Draws, MayAttach};
 

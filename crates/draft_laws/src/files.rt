@@ -8,7 +8,7 @@ ghost use Rattle.volume_model.specs.Sound.{direct_blocks, pointers_of_block, Sin
 ghost use Rattle.volume_laws.specs.Changes.{with_block};
 ghost use Rattle.change_laws.specs.Plans.{HasInode, HoldMore, blocks_past};
 ghost use Rattle.meta_store.specs.declared.change.Change.{Change};
-ghost use Rattle.meta_draft.specs.Deltas.{inode_delta, zero_delta, pointers_delta};
+ghost use Rattle.meta_store.specs.Deltas.{inode_delta, zero_delta, pointers_delta};
 ghost use Rattle.meta_draft.specs.Drafted.{drafted_blocks, with_delta};
 ghost use Rattle.draft_laws.specs.Drafts.{IsDraft, Draws, MayAttach, IsNewBlock};
 

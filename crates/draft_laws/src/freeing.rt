@@ -10,7 +10,7 @@ ghost use Rattle.change_laws.specs.Marks.{IsOfGroup, HasHandPut};
 ghost use Rattle.change_laws.specs.Plans.{HasInode, HoldMore};
 ghost use Rattle.meta_store.specs.declared.change.Change.{Change};
 ghost use Rattle.meta_store.specs.declared.change.Freed.{Freed};
-ghost use Rattle.meta_draft.specs.Deltas.{inode_delta, group_delta};
+ghost use Rattle.meta_store.specs.Deltas.{inode_delta, group_delta};
 ghost use Rattle.meta_draft.specs.Drafted.{drafted_blocks, with_delta, with_freed};
 ghost use Rattle.draft_laws.specs.Drafts.{IsDraft, Draws};
 ghost use Rattle.draft_laws.specs.Freeing.{with_all_freed, GivesUp, KeepsTree};

@@ -9,7 +9,7 @@ ghost use Rattle.volume_model.specs.Format.{Image, IsDinode, dinode_bytes, IsChu
 ghost use Rattle.volume_model.specs.Sound.{direct_blocks, UsedInode, DirectoryNode, Directory, attributes_of};
 ghost use Rattle.change_laws.specs.Plans.{HasInode, GrowsByChunk, HoldMore};
 ghost use Rattle.meta_store.specs.declared.change.Change.{Change};
-ghost use Rattle.meta_draft.specs.Deltas.{inode_delta, chunk_delta, zero_delta, pointers_delta};
+ghost use Rattle.meta_store.specs.Deltas.{inode_delta, chunk_delta, zero_delta, pointers_delta};
 ghost use Rattle.meta_draft.specs.Drafted.{drafted_blocks, with_delta};
 ghost use Rattle.draft_laws.specs.Drafts.{IsDraft, Draws, MayAttach};
 

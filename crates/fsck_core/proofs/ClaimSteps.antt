@@ -5,8 +5,7 @@ use Rattle.std.proofs.lemmas.List.Folds.{list_any-append}
 use Rattle.std.proofs.lemmas.Nat.Bits.{bit_at-zero}
 use Rattle.std.specs.List.{find, list_any, range_with_len}
 use Rattle.std.specs.Option.{option_map_or}
-use Rattle.volume_model.specs.Format.{bit_at}
-use Rattle.cyl_groups.specs.Bits.{HasBitPut}
+use Rattle.volume_model.specs.Format.{bit_at, HasBit}
 use Rattle.fsck_core.specs.declared.claims.Claims.{Claims}
 use Rattle.fsck_core.specs.Claimed.{HasClaimed, times}
 use Rattle.fsck_core.proofs.FirstTwice.{times-push_same, times-push_other, times-there, times-none, find_alike, find_lower}
@@ -57,7 +56,7 @@ claimed_again total b blocks old new within has was bits count twice =
 
 -- a block that wasn't claimed is claimed
 pub claimed_first : (total b : ℕ) (blocks : List ℕ) (old new : Claims) → b < total → HasClaimed total blocks old → bit_at old.bits.items b ≡ false
-    → HasBitPut b true old.bits.items new.bits.items → length new.bits.items ≡ length old.bits.items → new.count ≡ old.count + 1 → new.twice ≡ old.twice
+    → HasBit b true old.bits.items new.bits.items → length new.bits.items ≡ length old.bits.items → new.count ≡ old.count + 1 → new.twice ≡ old.twice
     → HasClaimed total (blocks ++ b ∷ []) new
 claimed_first total b blocks old new within has was put size count twice =
     let there : list_any (λ a. a == b) blocks ≡ false = sym (has.each b within) ∙ was in

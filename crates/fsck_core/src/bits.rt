@@ -12,10 +12,9 @@ ghost use Rattle.fsck_core.specs.Tables.{AreGroups};
 ghost use Rattle.fsck_core.specs.Claimed.{HasClaimed};
 
 use crate::claims::Claims;
-use crate::fields::is_body;
 use crate::inodes::Brief;
 use cyl_groups::{Group, is_set};
-use lufs_base::Geometry;
+use lufs_base::{BlockNo, Geometry};
 use volume_model::Counts;
 
 /// The first inode whose bit doesn't say whether it is in use.
@@ -106,7 +105,7 @@ fn has_bad_block_bit(g: &Geometry, groups: &[Group], claims: &Claims, b: u32) ->
     requires inside { b < blocks_of g.now }
     ensures { result ≡ has_other_bit g.now groups.now claims.now b }
 {
-    is_body(g, b) && block_bit(g, groups, b) != claims.is_claimed(b)
+    g.is_body(BlockNo(b)) && block_bit(g, groups, b) != claims.is_claimed(b)
 }
 
 // Whether the bit of block `b`, which is one of a group, is set.

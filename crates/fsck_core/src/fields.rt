@@ -9,8 +9,7 @@ ghost use Rattle.volume_model.specs.Format.{is_body, is_directory, is_file};
 ghost use Rattle.volume_model.specs.Sound.{size_in_blocks, named_pointers, has_right_links, has_right_size, has_none_past, has_no_hole, has_right_numbers, has_right_fields};
 ghost use Rattle.fsck_core.specs.Claimed.{used_with, blocks_claimed, IsReadable};
 
-use crate::types::{is_directory, is_file, is_link};
-use lufs_base::Geometry;
+use lufs_base::{BlockNo, Geometry};
 use volume_model::Dinode;
 
 /// Whether the links, the size and the block numbers of an inode are right, whose numbers by index are these.
@@ -54,9 +53,9 @@ fn has_right_size(d: &Dinode) -> bool
     ensures value { (g : Geometry) → result ≡ has_right_size g d.now }
     ensures most { IsTrue result → d.now.size ≤ 4096 * 1036 }
 {
-    is_file(d.mode) && d.size <= 4096 * 1036
-        || is_directory(d.mode) && d.size % 512 == 0 && 512 <= d.size && d.size <= 4096 * 256
-        || is_link(d.mode) && 1 <= d.size && d.size <= 1024
+    d.is_file() && d.size <= 4096 * 1036
+        || d.is_directory() && d.size % 512 == 0 && 512 <= d.size && d.size <= 4096 * 256
+        || d.is_link() && 1 <= d.size && d.size <= 1024
 }
 
 /// How many blocks have room for so many bytes.
@@ -109,7 +108,7 @@ fn has_no_wrong_hole(d: &Dinode, numbers: &[u32]) -> bool
     requires { d.now.size ≤ 4096 * 1036 }
     ensures { (chunks : List (Option (List Slot))) → result ≡ (is_file d.now.mode || has_no_hole (used_with d.now numbers.now chunks)) }
 {
-    is_file(d.mode) || has_no_hole(d, numbers)
+    d.is_file() || has_no_hole(d, numbers)
 }
 
 /// Whether there is a block at each index below the size.
@@ -148,29 +147,7 @@ pub(crate) fn is_none_or_body(g: &Geometry, b: u32) -> bool
     requires { IsGeometry g.now }
     ensures { result ≡ (b == 0 || is_body g.now b) }
 {
-    b == 0 || is_body(g, b)
-}
-
-/// Whether `b` is a body block of the volume.
-pub(crate) fn is_body(g: &Geometry, b: u32) -> bool
-    requires { IsGeometry g.now }
-    ensures { result ≡ is_body g.now b }
-{
-    let first = g.group_block(0).0;
-    first <= b && b < g.total() && rest_of(b - first, g.bpg) > g.ipg / 32
-}
-
-// The rest of a division. Mostly a group has a power of two of blocks, and then no division is needed.
-fn rest_of(at: u32, n: u32) -> u32
-    requires some { 0 < n }
-    requires fits { n ≤ 2 ^ 31 }
-    ensures { result ≡ at % n }
-{
-    if n.next_power_of_two() == n {
-        at & (n - 1)
-    } else {
-        at % n
-    }
+    b == 0 || g.is_body(BlockNo(b))
 }
 
 /// How many blocks are claimed.

@@ -2,14 +2,13 @@
 //! type and their links are kept.
 ghost use Rattle.std.specs.Prelude.{◌≡◌, ◌<◌, ◌≤◌, ◌+◌, ◌*◌, ◌++◌, ◌∷◌, [], true, All, length, take, Some, None, OnOk, IfOk, IsTrue};
 ghost use Rattle.lufs_base.specs.Layout.{IsGeometry};
-ghost use Rattle.volume_model.specs.Format.{Blocks, inodes_of, is_body};
+ghost use Rattle.volume_model.specs.Format.{Blocks, inodes_of, is_body, is_directory};
 ghost use Rattle.volume_model.specs.Sound.{inode_at, size_in_blocks};
 ghost use Rattle.fsck_core.specs.Claimed.{blocks_claimed};
 ghost use Rattle.fsck_core.specs.Inodes.{is_settled, AreKept, HasKept};
 
 use crate::claims::Claims;
 use crate::fields::{below_size, has_right_fields};
-use crate::types::is_directory;
 use lufs_base::{Geometry, Mem};
 use std::alloc::Global;
 use volume_model::Dinode;
@@ -19,6 +18,15 @@ use volume_model::Dinode;
 pub(crate) struct Brief {
     pub(crate) mode: u16,
     pub(crate) links: u16,
+}
+
+impl Brief {
+    /// Whether the inode is a directory.
+    pub(crate) fn is_directory(&self) -> bool
+        ensures { result ≡ is_directory self.now.mode }
+    {
+        matches!(self.mode, 0o040000..=0o040777)
+    }
 }
 
 /// An inode in use that isn't settled.
@@ -49,7 +57,7 @@ fn is_settled(g: &Geometry, d: &Dinode) -> bool
     ensures size { IsTrue result → d.now.size ≤ 4096 * 1036 }
     ensures below { IsTrue result → blocks_claimed d.now (take (size_in_blocks d.now.size) d.now.direct) ≡ blocks_claimed d.now d.now.direct }
 {
-    if is_directory(d.mode) {
+    if d.is_directory() {
         return false;
     }
     if d.indirect[0] != 0 {

@@ -15,7 +15,6 @@ mod records;
 mod slots;
 mod stop;
 mod survey;
-mod types;
 mod verdict;
 
 pub use verdict::check;

@@ -9,7 +9,6 @@ ghost use Rattle.fsck_core.specs.StepsUp.{is_directory_record, is_placed, is_mis
 
 use crate::inodes::Brief;
 use crate::names::{NameTables, Namer};
-use crate::types::is_directory;
 use lufs_base::Mem;
 use std::alloc::Global;
 
@@ -58,7 +57,7 @@ fn is_misplaced(inodes: &[Option<Brief>], tables: &NameTables, far: &[u32], i: u
     let at = i as usize;
     match &inodes[at] {
         Some(d) => {
-            is_directory(d.mode) && !is_placed(i, tables.namers[at], tables.parents[at], far[at])
+            d.is_directory() && !is_placed(i, tables.namers[at], tables.parents[at], far[at])
         }
         None => false,
     }

@@ -20,14 +20,13 @@ ghost use Rattle.fsck_core.specs.Survey.{HasSeenNames, IsSurvey, HasRoom, IsHere
 use crate::claims::Claims;
 use crate::directory::{entries_in, read_blocks};
 use crate::entries::Entry;
-use crate::fields::{below_size, has_right_fields, is_body};
+use crate::fields::{below_size, has_right_fields};
 use crate::inodes::{Brief, Unsettled};
 use crate::names::NameTables;
 use crate::numbers::{NUMBERS, read_numbers};
 use crate::slots::{are_right, names_unused};
 use crate::stop::Stop;
-use crate::types::is_directory;
-use lufs_base::{BLOCK, Mem};
+use lufs_base::{BLOCK, BlockNo, Mem};
 use meta_store::{MetaRead, StoreError};
 use std::alloc::Global;
 use volume_model::{Dinode, Kind};
@@ -152,7 +151,7 @@ fn look_at_names<S: MetaRead>(
     ensures unchanged { IsUnchanged (S.store store.old) (S.store store.new) }
     ensures failure { FailsJustAt (IsErrOf result Disk) (S.store store.old).disk (S.store store.new).disk }
 {
-    if !is_directory(d.mode) {
+    if !d.is_directory() {
         return Ok(());
     }
     if !survey.looks_at_names() {
@@ -228,7 +227,7 @@ fn look_at<S: MetaRead>(
         return look_at_numbers(alloc, store, inodes, i, d, &d.direct, buffer, survey);
     }
     let g = *store.geometry();
-    if !is_body(&g, d.indirect[0]) {
+    if !g.is_body(BlockNo(d.indirect[0])) {
         return Err(Stop::Found(Kind::Fields, i));
     }
     let held = read_numbers(store, d, buffer, numbers)?;

@@ -28,7 +28,6 @@ use crate::parents::{first_bad_links, first_bad_parent};
 use crate::records::{read_groups, read_inodes};
 use crate::stop::{Stop, unless_found};
 use crate::survey::{Survey, survey_inodes};
-use crate::types::is_directory;
 use cyl_groups::Group;
 use lufs_base::Geometry;
 use meta_store::{MetaRead, StoreError};
@@ -40,7 +39,7 @@ fn is_directory_record(inode: &Option<Brief>) -> bool
     ensures { result ≡ is_directory_record inode.now }
 {
     match inode {
-        Some(d) => is_directory(d.mode),
+        Some(d) => d.is_directory(),
         None => false,
     }
 }

@@ -20,8 +20,8 @@ use Rattle.history_model.specs.Effects.{edits_at}
 use Rattle.history_model.specs.Histories.{entry_at, is_carried_out, after_call, replay_of, IsRightReply, Legal}
 use Rattle.history_model.specs.Replies.{tree_after}
 use Rattle.history_model.specs.Touched.{call_touches, may_have_written}
-use Rattle.history_model.proofs.CarriedOutLaws.{after_holds}
-use Rattle.history_model.proofs.RefusedLaws.{refused_tree}
+use Rattle.history_rules.proofs.CarriedOutLaws.{after_holds}
+use Rattle.history_rules.proofs.RefusedLaws.{refused_tree}
 use Rattle.journal_model.specs.Journals.{Owner, Live, Released, Freed, Journal}
 use Rattle.journal_model.specs.Versions.{Version, Published, Sealed, Running, content_of, next_header}
 use Rattle.journal_model.specs.BlockRoles.{Role, Changes, moved, is_claimed}

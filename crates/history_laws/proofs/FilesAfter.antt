@@ -19,7 +19,7 @@ use Rattle.history_model.specs.Effects.{lost_by, losing, taking_name, following,
 use Rattle.history_model.specs.FileBytes.{written, cut_to}
 use Rattle.history_model.specs.Replies.{tree_after}
 use Rattle.history_model.specs.Touched.{names_inode}
-use Rattle.history_model.proofs.CarriedOutLaws.{after_holds}
+use Rattle.history_rules.proofs.CarriedOutLaws.{after_holds}
 use Rattle.journal_laws.proofs.Replays.{each_both}
 
 -- a file that the tree has, of this size and these blocks

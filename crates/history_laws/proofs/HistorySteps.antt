@@ -13,7 +13,7 @@ use Rattle.volume_model.specs.Sound.{Reading, Tree, shape_of}
 use Rattle.history_model.specs.Lines.{is_fsync}
 use Rattle.history_model.specs.Histories.{entry_at, is_ok, replay_of, Legal}
 use Rattle.history_model.specs.Touched.{touches_byte, tree_before}
-use Rattle.history_model.proofs.HistoryLaws.{legal-last}
+use Rattle.history_rules.proofs.HistoryLaws.{legal-last}
 use Rattle.journal_model.specs.Journals.{SealedTx}
 use Rattle.journal_model.specs.Versions.{Version, Published, Sealed, Running}
 use Rattle.history_laws.specs.Additions.{AreMoreEntries}

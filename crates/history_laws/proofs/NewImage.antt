@@ -14,9 +14,9 @@ use Rattle.volume_model.specs.Log.{log_of, log_with, transactions_from, WithHead
 use Rattle.volume_model.specs.Sound.{Reading, InodeState, AreApart, finding_of, reading_of, claims_of, used_of, node_of, tree_of, StandsFor}
 use Rattle.volume_model.specs.Worked.{smallest}
 use Rattle.history_model.specs.WorkedTrees.{directory_of, new_tree}
-use Rattle.history_model.proofs.StepsLaws.{none_in_range}
-use Rattle.history_model.proofs.BlockImageLaws.{length-blocks, block_of_blocks, block_past, sector_of_block}
-use Rattle.history_model.proofs.FileImageLaws.{past_nodes}
+use Rattle.history_rules.proofs.StepsLaws.{none_in_range}
+use Rattle.history_rules.proofs.BlockImageLaws.{length-blocks, block_of_blocks, block_past, sector_of_block}
+use Rattle.history_rules.proofs.SmallTreeLaws.{past_nodes}
 use Rattle.history_laws.specs.WorkedSession.{volume_as_made, new_image}
 
 -- the blocks and the sectors of the image

@@ -7,13 +7,13 @@ use Rattle.journal_model.specs.Versions.{Running}
 use Rattle.journal_model.specs.BlockRoles.{is_claimed}
 use Rattle.journal_model.specs.Batches.{is_freed_owner}
 use Rattle.history_laws.specs.Named.{named_block, byte_in}
-use Rattle.history_laws.specs.RawWrites.{given_to, IsTouchedSince, WritesTouched, IsWithinBlock}
+use Rattle.history_laws.specs.RawWrites.{given_to, IsTouchedSince, WritesTouched, LiesInBlock}
 use Rattle.history_laws.specs.Volumes.{Volume, readings_of, KeepsHistory}
 use Rattle.history_laws.proofs.AppliedEntries.{leaves}
 use Rattle.history_laws.proofs.QuietWrites.{given_within}
 
 module _ (g : Geometry) (moment : ℕ) (opening : Tree) (first : ℕ) (v : Volume) (keeps : KeepsHistory g moment opening first v) (start : ℕ) (bytes : List ℕ) (b : ℕ)
-    (within : IsWithinBlock start bytes b) where
+    (within : LiesInBlock start bytes b) where
   -- what the write gives is in the block
   its_block : (c i value : ℕ) → i < 4096 → given_to start bytes (4096 * c + i) ≡ Some value → c ≡ b
   its_block c i value inside is = let there = given_within start bytes (4096 * c + i) value is in omega (arith, there.0, there.1, within.at, within.fits, inside)

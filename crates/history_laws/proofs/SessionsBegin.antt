@@ -5,11 +5,10 @@ use Rattle.std.specs.List.{list_any}
 use Rattle.lufs_base.specs.declared.geometry.Geometry.{Geometry}
 use Rattle.lufs_base.specs.declared.delta.Delta.{Delta}
 use Rattle.volume_model.specs.Format.{block}
-use Rattle.volume_model.specs.Log.{is_cancel, live_deltas}
+use Rattle.volume_model.specs.Log.{is_cancel, live_deltas, lays_on}
 use Rattle.volume_model.specs.Crash.{Record, present_of}
 use Rattle.volume_model.specs.Sound.{reading_of, Tree, is_among}
 use Rattle.journal_model.specs.Journals.{Owner, Live, Released}
-use Rattle.journal_model.specs.LaidBlocks.{lays_on}
 use Rattle.journal_model.specs.BlockRoles.{Role, is_claimed}
 use Rattle.journal_model.specs.Batches.{is_freed_owner}
 use Rattle.journal_model.specs.Mount.{Found, Replaying, Replayed, Emptied, Mounted, HomeWrite, HomeFlush, NewHeader, HeaderFlush}

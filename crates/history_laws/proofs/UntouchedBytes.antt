@@ -18,9 +18,9 @@ use Rattle.history_model.specs.Histories.{entry_at, is_carried_out, after_call, 
 use Rattle.history_model.specs.Replies.{tree_after}
 use Rattle.history_model.specs.Touched.{names_inode, write_touches, trunc_touches, call_touches, may_have_written, touches_byte}
 use Rattle.history_model.specs.CrashSafety.{HasByte}
-use Rattle.history_model.proofs.HistoryLaws.{replayed-last}
-use Rattle.history_model.proofs.RefusedLaws.{refused_tree}
-use Rattle.history_model.proofs.RightHistoryLaws.{history_keeps, any_calls}
+use Rattle.history_rules.proofs.HistoryLaws.{replayed-last}
+use Rattle.history_rules.proofs.RefusedLaws.{refused_tree}
+use Rattle.history_rules.proofs.RightHistoryLaws.{history_keeps, any_calls}
 use Rattle.history_laws.specs.Named.{HasByteOf}
 use Rattle.history_laws.specs.WholeFiles.{IsWholeFile, HasWholeFiles}
 use Rattle.history_laws.proofs.FilesAfter.{IsRewritten, FileAfter, Empty, Same, Rewritten, file_after}

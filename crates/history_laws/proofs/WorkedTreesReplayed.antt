@@ -16,8 +16,8 @@ use Rattle.history_model.specs.Effects.{new_file, new_subdirectory}
 use Rattle.history_model.specs.Replies.{reply_of, tree_after}
 use Rattle.history_model.specs.Histories.{replay_of}
 use Rattle.history_model.specs.WorkedTrees.{with_rights, directory_of, new_tree, first_chunk, slot}
-use Rattle.history_model.proofs.FileImageLaws.{past_nodes}
-use Rattle.history_model.proofs.NodeLaws.{with_node-other, on_node-other}
+use Rattle.history_rules.proofs.SmallTreeLaws.{past_nodes}
+use Rattle.history_rules.proofs.NodeLaws.{with_node-other, on_node-other}
 use Rattle.history_laws.specs.WorkedSession.{Times, letters, five_entries, committed_at, tree_with_directory, lettered_file, tree_with_letters, tree_at}
 
 -- the inode that an edit changes

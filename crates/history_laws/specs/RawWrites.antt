@@ -27,6 +27,6 @@ WritesTouched g moment opening entries r k readings first bytes =
     → (value ≡ byte_in (present_of r) b p) ⊎ IsTouchedSince g moment opening entries k (length r.calls) ino p
 
 -- the write lies in block b
-pub record IsWithinBlock (start : ℕ) (bytes : List ℕ) (b : ℕ) : Type 0 where
+pub record LiesInBlock (start : ℕ) (bytes : List ℕ) (b : ℕ) : Type 0 where
   pub at : 4096 * b ≤ 512 * start
   pub fits : 512 * start + length bytes ≤ 4096 * (b + 1)

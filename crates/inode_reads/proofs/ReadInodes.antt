@@ -19,7 +19,7 @@ use Rattle.volume_laws.proofs.NodeFields.{mode_of_its_node, attributes_of_its_no
 use Rattle.volume_laws.specs.Nodes.{mode_of_node, attributes_of_node}
 use Rattle.history_model.specs.Places.{attributes_in}
 use Rattle.history_model.specs.Replies.{type_bits}
-use Rattle.history_model.proofs.LinkRangeLaws.{links-counted}
+use Rattle.history_rules.proofs.LinkRangeLaws.{links-counted}
 use Rattle.inode_reads.proofs.ReadSizes.{size_of_node_read}
 use Rattle.meta_store.specs.NoChange.{no_change}
 use Rattle.meta_store.specs.Changes.{changed}

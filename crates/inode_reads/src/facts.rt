@@ -15,7 +15,7 @@ pub fn is_directory(d: &Dinode) -> bool
     ensures value { result ≡ is_directory d.now.mode }
     ensures tree { (g : Geometry) (tree : Tree) (i : ℕ) → IsInodeOf g tree i (Some d.now) → result ≡ is_directory_in tree i }
 {
-    matches!(d.mode, 0o040000..=0o040777)
+    d.is_directory()
 }
 
 /// Whether the inode is a symbolic link, by its record.
@@ -23,7 +23,7 @@ pub fn is_link(d: &Dinode) -> bool
     ensures value { result ≡ is_link d.now.mode }
     ensures tree { (g : Geometry) (tree : Tree) (i : ℕ) → IsInodeOf g tree i (Some d.now) → result ≡ is_link_in tree i }
 {
-    matches!(d.mode, 0o120000..=0o120777)
+    d.is_link()
 }
 
 /// Whether the caller has these rights on the inode, by its record: 4 to read, 2 to write, 1 to search, or a sum of

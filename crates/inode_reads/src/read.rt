@@ -1,7 +1,6 @@
 //! An inode that is asked for, if the volume has it.
-ghost use Rattle.std.specs.Prelude.{◌≡◌, nat_lt, option_map, IfSome, IfOk};
-ghost use Rattle.lufs_base.specs.Layout.{IsGeometry};
-ghost use Rattle.volume_model.specs.Format.{block, inodes_of, IsDinode};
+ghost use Rattle.std.specs.Prelude.{◌≡◌, option_map, IfSome, IfOk};
+ghost use Rattle.volume_model.specs.Format.{block, IsDinode};
 ghost use Rattle.volume_model.specs.Sound.{reading_of, used_at, used_inode};
 ghost use Rattle.sector_disk.specs.Disk.{CountsFailure};
 ghost use Rattle.meta_store.specs.Store.{IsUnchanged};
@@ -9,19 +8,11 @@ ghost use Rattle.meta_store.specs.Changing.{IsKept};
 ghost use Rattle.inode_reads.specs.Answers.{AnswersByTree};
 ghost use Rattle.inode_reads.specs.InodeOf.{IsInodeOf};
 
-use lufs_base::{DiskFault, Geometry, Ino};
+use lufs_base::{DiskFault, Ino};
 use meta_draft::Draft;
 use meta_store::MetaRead;
 use std::alloc::Global;
 use volume_model::Dinode;
-
-// Whether the volume has inode `i`.
-fn is_inode(g: &Geometry, i: Ino) -> bool
-    requires { IsGeometry g.now }
-    ensures { result ≡ nat_lt i.0 (inodes_of g.now) }
-{
-    i.0 < g.groups * g.ipg
-}
 
 /// Inode `i` of the store as it is, if it is in use. One that the volume doesn't have isn't, and nothing is read for it.
 pub fn read_inode<S: MetaRead>(
@@ -37,7 +28,7 @@ pub fn read_inode<S: MetaRead>(
     ensures kept { IsKept (S.changing store.old) (S.changing store.new) }
     ensures failure { CountsFailure result (S.store store.old).disk (S.store store.new).disk }
 {
-    if !is_inode(store.geometry(), i) {
+    if !store.geometry().is_inode(i) {
         return Ok(None);
     }
     let draft = Draft::new(alloc);

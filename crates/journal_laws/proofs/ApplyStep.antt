@@ -10,12 +10,12 @@ use Rattle.lufs_base.specs.declared.geometry.Geometry.{Geometry}
 use Rattle.lufs_base.specs.declared.delta.Delta.{Delta}
 use Rattle.volume_model.specs.declared.log.Tx.{Tx}
 use Rattle.volume_model.specs.Format.{Image}
-use Rattle.volume_model.specs.Log.{delta_bytes, is_cancel, live_deltas, logged_len}
+use Rattle.volume_model.specs.Log.{delta_bytes, is_cancel, live_deltas, logged_len, lays_on}
 use Rattle.volume_model.specs.Crash.{Record, with_calls, present_of}
 use Rattle.volume_model.specs.Sound.{is_among}
 use Rattle.journal_model.specs.Journals.{Batch, Live, Freed, Journal}
 use Rattle.journal_model.specs.Versions.{Version, Published, Sealed, Running, is_logged, next_header, sealed_txs, running_tx, later_of, txs_after, txs_of}
-use Rattle.journal_model.specs.LaidBlocks.{given_by, lays_on, is_laid_by, is_cancelled_in, is_cancelled_by}
+use Rattle.journal_model.specs.LaidBlocks.{given_by, is_laid_by, is_cancelled_in, is_cancelled_by}
 use Rattle.journal_model.specs.BlockRoles.{Role, Metadata, Roles, Changes, moved, is_metadata, is_claimed}
 use Rattle.journal_model.specs.Batches.{batch_of, held_by, is_held, is_freed_owner, home_count}
 use Rattle.journal_model.specs.Room.{IsOpen, pending_bytes}

@@ -11,8 +11,8 @@ use Rattle.lufs_base.specs.declared.delta.Delta.{Delta}
 use Rattle.lufs_base.specs.declared.delta.DeltaKind.{DeltaKind}
 use Rattle.lufs_base.specs.declared.delta.DeltaKind.TheVariants.{Group, Inode, Chunk, Pointers, Zero, LinkText, Cancel}
 use Rattle.volume_model.specs.declared.log.Tx.{Tx}
-use Rattle.volume_model.specs.Log.{is_part_of_block, may_be_logged, is_zero_block, is_cancel, live_deltas, byte_of, given_at}
-use Rattle.journal_model.specs.LaidBlocks.{given_by, lays_on, is_laid_by, is_cancelled_in, is_cancelled_by}
+use Rattle.volume_model.specs.Log.{is_part_of_block, may_be_logged, is_zero_block, is_cancel, live_deltas, byte_of, given_at, lays_on}
+use Rattle.journal_model.specs.LaidBlocks.{given_by, is_laid_by, is_cancelled_in, is_cancelled_by}
 use Rattle.journal_model.specs.Changes.{IsMerged}
 use Rattle.journal_laws.proofs.Replays.{LiesInBlock, survives, lies_in_block, live-append, else_by, given-append, not_laid_gives_none}
 

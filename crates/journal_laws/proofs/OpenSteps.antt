@@ -1,12 +1,12 @@
 -- Calls come in and go out: the disk and the versions stay, and what is reserved has room.
 use Rattle.std.proofs.Common.{◌≡◌, ◌≤◌, inr, ℕ, ◌+◌, [], Some, refl, sym, ap, subst, arith}
 use Rattle.lufs_base.specs.declared.geometry.Geometry.{Geometry}
-use Rattle.volume_model.specs.Log.{delta_bytes}
+use Rattle.volume_model.specs.Log.{delta_bytes, sectors_for}
 use Rattle.volume_model.specs.Crash.{Record, with_calls}
 use Rattle.journal_model.specs.Journals.{Batch, Roll, Idle, Writing, Home, Trimmed, Journal}
 use Rattle.journal_model.specs.BlockRoles.{Roles, Stays, moved}
 use Rattle.journal_model.specs.Batches.{batch_of}
-use Rattle.journal_model.specs.Room.{sectors_for, pending_bytes, Fits, IsOpen}
+use Rattle.journal_model.specs.Room.{pending_bytes, IsOpen, HasSpaceFor}
 use Rattle.journal_model.specs.Kept.{IsBatch, IsRoll}
 use Rattle.journal_model.specs.Safety.{IsSafe}
 use Rattle.journal_laws.proofs.Outcomes.{no_calls}
@@ -28,7 +28,7 @@ pub sectors_grow : (few many : ℕ) → few ≤ many → sectors_for few ≤ sec
 sectors_grow few many fewer = omega (arith, fewer)
 
 module _ (g : Geometry) (roles : Roles) (r : Record) (j : Journal) (safe : IsSafe g roles r j) where
-  with_members : (members unspent : ℕ) → (members ≡ 0 → unspent ≡ 0) → (IsOpen (record j { members = members; unspent = unspent }) → Fits g (record j { members = members; unspent = unspent }) 0)
+  with_members : (members unspent : ℕ) → (members ≡ 0 → unspent ≡ 0) → (IsOpen (record j { members = members; unspent = unspent }) → HasSpaceFor g (record j { members = members; unspent = unspent }) 0)
       → IsSafe g (moved Stays roles) (with_calls r []) (record j { members = members; unspent = unspent })
   with_members members unspent none fits =
       without_calls g (moved Stays roles) r (record j { members = members; unspent = unspent })
@@ -60,7 +60,7 @@ module _ (g : Geometry) (roles : Roles) (r : Record) (j : Journal) (safe : IsSaf
         room = record { oldest = safe.room.oldest; sealed = safe.room.sealed; number = safe.room.number; fits = fits; unspent = none };
       })
 
-  pub keeps_admit : (need : ℕ) → Fits g j need → IsSafe g (moved Stays roles) (with_calls r []) (record j { members = j.members + 1; unspent = j.unspent + need })
+  pub keeps_admit : (need : ℕ) → HasSpaceFor g j need → IsSafe g (moved Stays roles) (with_calls r []) (record j { members = j.members + 1; unspent = j.unspent + need })
   keeps_admit need fits =
       with_members (j.members + 1) (j.unspent + need) (λ none. absurd (omega (arith, none)))
       (λ some. let sum : delta_bytes j.running + (j.unspent + need) + 0 ≡ pending_bytes j + need = omega arith in

@@ -13,8 +13,8 @@ use Rattle.lufs_base.specs.declared.delta.DeltaKind.TheVariants.{Group, Inode, C
 use Rattle.lufs_base.specs.Kinds.{has_bytes}
 use Rattle.volume_model.specs.declared.log.Tx.{Tx}
 use Rattle.volume_model.specs.Format.{Image}
-use Rattle.volume_model.specs.Log.{is_part_of_block, may_be_logged, is_zero_block, is_cancel, AreLoggable, cancels, live_deltas, byte_of, given_at}
-use Rattle.journal_model.specs.LaidBlocks.{given_by, replayed_byte, lays_on, is_laid_by, is_cancelled_by}
+use Rattle.volume_model.specs.Log.{is_part_of_block, may_be_logged, is_zero_block, is_cancel, AreLoggable, cancels, live_deltas, byte_of, given_at, lays_on}
+use Rattle.journal_model.specs.LaidBlocks.{given_by, replayed_byte, is_laid_by, is_cancelled_by}
 
 -- a delta of the table ends in its block
 part_inside : (kind : DeltaKind) (place len : ℕ) → place < 4096 → is_part_of_block kind place len ≡ true → place + len ≤ 4096

@@ -15,7 +15,7 @@ use Rattle.lufs_base.specs.declared.delta.DeltaKind.TheVariants.{Group, Inode, C
 use Rattle.volume_model.specs.declared.log.Header.{Header}
 use Rattle.volume_model.specs.declared.log.Tx.{Tx}
 use Rattle.volume_model.specs.Format.{Image, geometry_of}
-use Rattle.volume_model.specs.Log.{is_home_of, may_be_logged, AreLoggable, live_deltas, MayBeHeader}
+use Rattle.volume_model.specs.Log.{is_home_of, may_be_logged, AreLoggable, live_deltas, MayBeHeader, lays_on}
 use Rattle.volume_model.specs.Crash.{Record, present_of}
 use Rattle.log_laws.specs.TxsInRing.{sectors_of_txs, StandFrom, trimmed}
 use Rattle.log_laws.specs.LogRing.{IsLogRing}
@@ -24,7 +24,7 @@ use Rattle.log_laws.proofs.TxSize.{low_home}
 use Rattle.log_laws.proofs.RingKept.{turned}
 use Rattle.journal_model.specs.Journals.{Journal}
 use Rattle.journal_model.specs.Versions.{Version, Published, Sealed, Running, sealed_txs, written_txs, running_tx, header_after, later_of, txs_after, txs_of}
-use Rattle.journal_model.specs.LaidBlocks.{lays_on, is_laid_by}
+use Rattle.journal_model.specs.LaidBlocks.{is_laid_by}
 use Rattle.journal_model.specs.BlockRoles.{Metadata, Roles, is_claimed}
 use Rattle.journal_model.specs.Kept.{HasRoom}
 use Rattle.journal_model.specs.Safety.{IsSafe}

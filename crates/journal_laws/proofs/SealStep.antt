@@ -10,12 +10,12 @@ use Rattle.lufs_base.specs.declared.geometry.Geometry.{Geometry}
 use Rattle.lufs_base.specs.declared.delta.Delta.{Delta}
 use Rattle.volume_model.specs.declared.log.Tx.{Tx}
 use Rattle.volume_model.specs.Format.{Image}
-use Rattle.volume_model.specs.Log.{live_deltas, tx_sectors, may_be_logged, logged_len}
+use Rattle.volume_model.specs.Log.{live_deltas, tx_sectors, may_be_logged, logged_len, lays_on}
 use Rattle.volume_model.specs.Crash.{Record, with_calls, present_of}
 use Rattle.log_laws.specs.TxsInRing.{sectors_of_txs}
 use Rattle.journal_model.specs.Journals.{SealedTx, Journal}
 use Rattle.journal_model.specs.Versions.{Version, Published, Sealed, Running, is_logged, next_header, running_tx, later_of, txs_after, txs_of}
-use Rattle.journal_model.specs.LaidBlocks.{given_by, lays_on, is_cancelled_by}
+use Rattle.journal_model.specs.LaidBlocks.{given_by, is_cancelled_by}
 use Rattle.journal_model.specs.BlockRoles.{Roles, Seals, moved, moved_from, is_claimed}
 use Rattle.journal_model.specs.Batches.{home_count}
 use Rattle.journal_model.specs.Room.{used_sectors}

@@ -10,7 +10,7 @@ use Rattle.journal_model.specs.Versions.{Version, Published, Sealed, Running, se
 use Rattle.journal_model.specs.LaidBlocks.{given_by, is_laid_by, is_cancelled_in, is_cancelled_by}
 use Rattle.journal_model.specs.BlockRoles.{Role, Metadata, Roles, is_metadata, is_claimed}
 use Rattle.journal_model.specs.Batches.{is_held, is_freed_owner}
-use Rattle.journal_model.specs.Room.{Fits, IsOpen}
+use Rattle.journal_model.specs.Room.{IsOpen, HasSpaceFor}
 
 -- A block that a version claims has the same role in a later one, or is unclaimed there.
 pub record IsNextRole (before after : Role) : Type 0 where
@@ -75,5 +75,5 @@ pub record HasRoom (g : Geometry) (j : Journal) : Type 0 where
   pub oldest : MayBeHeader g j.oldest
   pub sealed : AreNext g j.oldest j.committed (sealed_txs j)
   pub number : (next_header g j).tid < 2 ^ 32
-  pub fits : IsOpen j → Fits g j 0
+  pub fits : IsOpen j → HasSpaceFor g j 0
   pub unspent : j.members ≡ 0 → j.unspent ≡ 0

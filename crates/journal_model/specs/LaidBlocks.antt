@@ -4,7 +4,7 @@ use Rattle.std.specs.List.{list_any, filter_map, last_or}
 use Rattle.lufs_base.specs.declared.delta.Delta.{Delta}
 use Rattle.volume_model.specs.declared.log.Tx.{Tx}
 use Rattle.volume_model.specs.Format.{Image}
-use Rattle.volume_model.specs.Log.{is_cancel, cancels, given_at, live_deltas, recovered_byte}
+use Rattle.volume_model.specs.Log.{is_cancel, cancels, given_at, live_deltas, recovered_byte, lays_on}
 
 -- what deltas, laid in order, give for the byte at an address
 abbrev pub given_by : List Delta → ℕ → Option ℕ
@@ -13,10 +13,6 @@ given_by deltas address = last_or None (filter_map (given_at address) deltas)
 -- the byte at an address once these transactions are replayed
 abbrev pub replayed_byte : Image → List Tx → ℕ → ℕ
 replayed_byte image txs address = recovered_byte image (live_deltas txs) address
-
--- the delta lays bytes over block b
-abbrev pub lays_on : ℕ → Delta → Bool
-lays_on b d = d.home / 4096 == b && not (is_cancel d.kind)
 
 -- a replay of the transactions lays bytes over block b
 abbrev pub is_laid_by : List Tx → ℕ → Bool

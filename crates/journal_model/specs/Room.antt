@@ -1,15 +1,11 @@
 -- The room of the ring: what transactions take of it, and what the calls inside have reserved.
-use Rattle.std.specs.Prelude.{◌≤◌, ◌⊎◌, ℕ, ◌+◌, ◌-◌, ◌/◌, length}
-use Rattle.lufs_base.specs.Layout.{payload_size, ring_of}
+use Rattle.std.specs.Prelude.{◌≤◌, ◌⊎◌, ℕ, ◌+◌, length}
+use Rattle.lufs_base.specs.Layout.{ring_of}
 use Rattle.lufs_base.specs.declared.geometry.Geometry.{Geometry}
-use Rattle.volume_model.specs.Log.{delta_bytes}
+use Rattle.volume_model.specs.Log.{delta_bytes, Fits}
 use Rattle.log_laws.specs.TxsInRing.{sectors_of_txs}
 use Rattle.journal_model.specs.Journals.{Journal}
 use Rattle.journal_model.specs.Versions.{sealed_txs}
-
--- the sectors of a transaction with so many bytes of deltas
-abbrev pub sectors_for : (bytes : ℕ) → ℕ
-sectors_for bytes = (bytes + 16 + (payload_size - 1)) / payload_size
 
 -- the sectors of the committed transactions, and of the sealed one
 abbrev pub used_sectors : Journal → ℕ
@@ -23,8 +19,8 @@ abbrev pub pending_bytes : Journal → ℕ
 pending_bytes j = delta_bytes j.running + j.unspent
 
 -- with so many bytes more the running transaction has room in the ring
-abbrev pub Fits : Geometry → Journal → (need : ℕ) → Type 0
-Fits g j need = used_sectors j + sealed_sectors j + sectors_for (pending_bytes j + need) ≤ ring_of g
+abbrev pub HasSpaceFor : Geometry → Journal → (need : ℕ) → Type 0
+HasSpaceFor g j need = Fits (ring_of g) (used_sectors j) (sealed_sectors j) (pending_bytes j) need
 
 -- the running transaction has a delta, or may get one
 abbrev pub IsOpen : Journal → Type 0

@@ -14,7 +14,7 @@ use Rattle.journal_model.specs.Versions.{Version, header_after, next_header, run
 use Rattle.journal_model.specs.BlockRoles.{Role, Roles, Move, Stays, Seals, Publishes, Changes, is_metadata}
 use Rattle.journal_model.specs.LaidBlocks.{is_laid_by}
 use Rattle.journal_model.specs.Batches.{is_held}
-use Rattle.journal_model.specs.Room.{used_sectors, Fits}
+use Rattle.journal_model.specs.Room.{used_sectors, HasSpaceFor}
 use Rattle.journal_model.specs.Changes.{Change, owner_after, MovesRoles, MovesDeltas}
 
 -- The write is of whole sectors in a body block that no version has metadata in and no batch holds.
@@ -34,7 +34,7 @@ published_owner tid (Freed by) = if by == tid then Released else Freed by
 -- In the journal j over what stands at home, a step moves versions, makes calls of the disk, and leaves a journal.
 pub data Step (g : Geometry) (roles : Roles) (home : Image) (j : Journal) : Move → List DeviceCall → Journal → Type 0 where
   -- a call comes in, and goes out with what is left of its need
-  Admit : (need : ℕ) → Fits g j need → Step g roles home j Stays [] (record j { members = j.members + 1; unspent = j.unspent + need })
+  Admit : (need : ℕ) → HasSpaceFor g j need → Step g roles home j Stays [] (record j { members = j.members + 1; unspent = j.unspent + need })
   Leave : (members unspent left : ℕ) → j.members ≡ members + 1 → j.unspent ≡ unspent + left → (members ≡ 0 → unspent ≡ 0)
       → Step g roles home j Stays [] (record j { members = members; unspent = unspent })
   -- deltas are laid over the running ones, and blocks are taken, freed and given back

@@ -1,14 +1,14 @@
 //! The definitions computed on small journals, so that a reader sees what they say.
 ghost use Rattle.std.specs.Prelude.{◌≡◌, ◌∷◌, ◌++◌, [], true, false, replicate, Some, None};
 ghost use Rattle.volume_model.specs.declared.device_call.DeviceCall.TheVariants.{Write};
-ghost use Rattle.volume_model.specs.Log.{Listed, WithHeader, log_with, header_bytes};
+ghost use Rattle.volume_model.specs.Log.{Listed, WithHeader, log_with, header_bytes, sectors_for};
 ghost use Rattle.volume_model.specs.Worked.{smallest, empty_tx};
 ghost use Rattle.log_laws.specs.LogOnImage.{tx_write};
 ghost use Rattle.journal_model.specs.Journals.{Live, Released, Freed, Home, Trimmed, Writing};
 ghost use Rattle.journal_model.specs.Versions.{Published, Running, next_header, header_after, running_tx, txs_of, txs_after};
 ghost use Rattle.journal_model.specs.LaidBlocks.{given_by, is_laid_by, replayed_byte};
 ghost use Rattle.journal_model.specs.Batches.{is_held, is_released};
-ghost use Rattle.journal_model.specs.Room.{pending_bytes, sectors_for};
+ghost use Rattle.journal_model.specs.Room.{pending_bytes};
 ghost use Rattle.journal_model.specs.Changes.{owner_after};
 ghost use Rattle.journal_model.specs.Steps.{published_owner};
 ghost use Rattle.journal_model.specs.Worked.{mounted_at, with_file, file_sector, log_by, file_round_the_end, rolling, file_batch, directory_tx, removal, removal_tx, with_directory};

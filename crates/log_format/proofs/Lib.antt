@@ -7,3 +7,4 @@ pub mod TxRecords
 pub mod FrontMore
 pub mod RunPieces
 pub mod ReaderSteps
+pub mod LoggableTests

@@ -3,3 +3,4 @@ pub mod InOrder
 pub mod Heads
 pub mod Answers
 pub mod RunReading
+pub mod Loggable

@@ -10,12 +10,14 @@
 mod bodies;
 mod header;
 mod kinds;
+mod loggable;
 mod records;
 mod run_reader;
 mod trailer;
 mod transaction;
 
 pub use header::{BadHeader, read_header, write_header};
+pub use loggable::are_loggable;
 pub use records::{Run, RunError, read_run};
 pub use run_reader::{RunReader, Tally};
 pub use trailer::{read_trailer, write_trailer};

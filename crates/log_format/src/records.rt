@@ -1,7 +1,7 @@
 //! The records of a run, read with their deltas: which deltas may be logged, and in which order.
 ghost use Rattle.std.specs.Prelude.{◌≡◌, ◌<◌, ◌≤◌, ℕ, List, length, IfOk};
 ghost use Rattle.lufs_base.specs.Layout.{IsGeometry};
-ghost use Rattle.volume_model.specs.Log.{is_home_of, is_part_of_block, may_be_logged, is_zero_block, is_cancel, may_precede, Whole, front_of, run_of, AreLoggable};
+ghost use Rattle.volume_model.specs.Log.{is_home_of, is_part_of_block, may_be_logged, may_precede, Whole, front_of, run_of, AreLoggable};
 ghost use Rattle.lufs_base.specs.declared.delta.Delta.{Delta};
 ghost use Rattle.lufs_base.specs.declared.geometry.Geometry.{Geometry};
 ghost use Rattle.log_format.specs.declared.records.RunError.TheVariants.{Mem};
@@ -88,9 +88,9 @@ pub(crate) fn is_part_of_block(kind: DeltaKind, place: u32, len: u32) -> bool
     }
 }
 
-// Whether a delta of this kind may have this home and this length.
+/// Whether a delta of this kind may have this home and this length.
 #[tactic(auto, unfolding(volume_model::specs::Log::LogRecord::may_be_logged))]
-fn may_be_logged(g: &Geometry, kind: DeltaKind, home: u64, len: u32) -> bool
+pub(crate) fn may_be_logged(g: &Geometry, kind: DeltaKind, home: u64, len: u32) -> bool
     requires { IsGeometry g.now }
     ensures { result ≡ may_be_logged g.now kind home len }
 {
@@ -101,18 +101,6 @@ fn may_be_logged(g: &Geometry, kind: DeltaKind, home: u64, len: u32) -> bool
     is_home_of(kind, region) && is_part_of_block(kind, (home % BLOCK as u64) as u32, len)
 }
 
-fn is_zero_block(kind: DeltaKind) -> bool
-    ensures { result ≡ is_zero_block kind }
-{
-    matches!(kind, DeltaKind::Zero)
-}
-
-fn is_cancel(kind: DeltaKind) -> bool
-    ensures { result ≡ is_cancel kind }
-{
-    matches!(kind, DeltaKind::Cancel)
-}
-
 /// What the head of a delta's record says.
 #[derive(Clone, Copy, Debug, PartialEq, Eq)]
 pub(crate) struct RecordHead {
@@ -121,7 +109,7 @@ pub(crate) struct RecordHead {
     pub(crate) len: u32,
 }
 
-fn head_of(d: &Delta) -> RecordHead
+pub(crate) fn head_of(d: &Delta) -> RecordHead
     ensures { result ≡ head_of d.now }
 {
     RecordHead {
@@ -139,13 +127,13 @@ pub(crate) fn may_precede(d: RecordHead, kind: DeltaKind, home: u64) -> bool
     if d.home > home {
         return false;
     }
-    if d.home == home && !(is_zero_block(d.kind) && !is_zero_block(kind)) {
+    if d.home == home && !(d.kind.is_zero_block() && !kind.is_zero_block()) {
         return false;
     }
     if d.kind.has_bytes() && kind.has_bytes() && u64::from(d.len) > home - d.home {
         return false;
     }
-    !(is_cancel(d.kind) || is_cancel(kind)) || d.home / BLOCK as u64 != home / BLOCK as u64
+    !(d.kind.is_cancel() || kind.is_cancel()) || d.home / BLOCK as u64 != home / BLOCK as u64
 }
 
 // Whether the bytes are the commit record after so many deltas, with nothing but zeros after it up to

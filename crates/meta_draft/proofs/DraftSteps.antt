@@ -10,9 +10,10 @@ use Rattle.lufs_base.specs.declared.geometry.Geometry.{Geometry}
 use Rattle.lufs_base.specs.declared.delta.Delta.{Delta}
 use Rattle.volume_model.specs.Format.{Image, sectors_of, block}
 use Rattle.volume_model.specs.Crash.{image_after}
+use Rattle.volume_model.specs.Log.{lays_on}
 use Rattle.meta_store.specs.declared.change.Change.{Change}
 use Rattle.meta_store.specs.declared.change.RawWrite.{RawWrite}
-use Rattle.meta_store.specs.Laid.{laid_block, laid_byte, lays_on}
+use Rattle.meta_store.specs.Laid.{laid_block, laid_byte}
 use Rattle.meta_store.specs.Changes.{writes_of, deltas_on, changed, with_part}
 use Rattle.meta_store.proofs.LaidBlocks.{block_laid_over, length-laid_block, laid_block_at}
 use Rattle.meta_store.proofs.ImageLaid.{laid_byte_append}

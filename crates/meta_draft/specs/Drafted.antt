@@ -8,7 +8,7 @@ use Rattle.meta_store.specs.declared.change.RawWrite.{RawWrite}
 use Rattle.meta_store.specs.Store.{StoreTold}
 use Rattle.meta_store.specs.Merged.{merged, all_merged}
 use Rattle.meta_store.specs.Changes.{changed}
-use Rattle.meta_draft.specs.Deltas.{cancel_delta}
+use Rattle.meta_store.specs.Deltas.{cancel_delta}
 
 -- what a store tells, with this change made to its content
 abbrev pub drafted : Change → StoreTold → StoreTold

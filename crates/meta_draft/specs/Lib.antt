@@ -1,4 +1,3 @@
-pub mod Deltas
 pub mod Drafted
 pub mod Records
 pub mod OnBlock

@@ -1,8 +1,9 @@
 //! What a change lays over one block.
 ghost use Rattle.std.specs.Prelude.{◌≡◌, ◌∷◌, [], length, All};
-ghost use Rattle.meta_store.specs.Laid.{laid_block, lays_on};
+ghost use Rattle.meta_store.specs.Laid.{laid_block};
 ghost use Rattle.meta_store.specs.Changes.{deltas_on};
 ghost use Rattle.meta_draft.specs.OnBlock.{IsInOneBlock, raw_on};
+ghost use Rattle.volume_model.specs.Log.{lays_on};
 
 use lufs_base::{BLOCK, BlockNo, Delta, DeltaKind, SECTOR};
 use meta_store::{RawWrite, lay_delta};

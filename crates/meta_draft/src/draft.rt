@@ -120,7 +120,7 @@ impl Draft {
     ghost use Rattle.meta_store.specs.Changing.{IsKept};
     ghost use Rattle.meta_store.specs.NoChange.{no_change};
     ghost use Rattle.meta_store.specs.Laid.{IsWithinBlock};
-    ghost use Rattle.meta_draft.specs.Deltas.{group_delta, inode_delta, chunk_delta, pointers_delta, zero_delta, text_delta};
+    ghost use Rattle.meta_store.specs.Deltas.{group_delta, inode_delta, chunk_delta, pointers_delta, zero_delta, text_delta};
     ghost use Rattle.meta_draft.specs.Drafted.{drafted, with_delta, with_freed, with_taken, with_raw};
     ghost use Rattle.meta_draft.specs.Records.{IsInodeRead, IsGroupRead};
     ghost use Rattle.meta_draft.specs.OnBlock.{IsInOneBlock};

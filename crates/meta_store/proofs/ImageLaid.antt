@@ -7,9 +7,9 @@ use Rattle.std.proofs.lemmas.List.{append-nil, drop_all, take_all, ext_get_or, g
 use Rattle.std.proofs.lemmas.List.Elements.{filter_map-append, filter-append}
 use Rattle.lufs_base.specs.declared.delta.Delta.{Delta}
 use Rattle.volume_model.specs.Format.{Image}
-use Rattle.volume_model.specs.Log.{is_cancel, byte_of}
+use Rattle.volume_model.specs.Log.{is_cancel, byte_of, lays_on}
 use Rattle.meta_store.specs.LaidSize.{length-laid_over}
-use Rattle.meta_store.specs.Laid.{given_in_block, laid_byte, laid_block, laid_over, lays_on}
+use Rattle.meta_store.specs.Laid.{given_in_block, laid_byte, laid_block, laid_over}
 use Rattle.meta_store.specs.Changes.{deltas_on}
 use Rattle.meta_store.proofs.LaidBlocks.{length-laid_block, laid_block_at, laid_over_at}
 use Rattle.meta_store.proofs.LogLaid.{cancel_gives_none, none_or_none}

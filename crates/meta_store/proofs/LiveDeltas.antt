@@ -6,8 +6,8 @@ use Rattle.std.proofs.lemmas.List.Elements.{filter-append}
 use Rattle.std.proofs.lemmas.List.Folds.{list_any-append}
 use Rattle.lufs_base.specs.declared.delta.Delta.{Delta}
 use Rattle.volume_model.specs.declared.log.Tx.{Tx}
-use Rattle.volume_model.specs.Log.{cancels, live_deltas, is_cancel}
-use Rattle.meta_store.specs.Laid.{lays_on, laid_on}
+use Rattle.volume_model.specs.Log.{cancels, live_deltas, is_cancel, lays_on}
+use Rattle.meta_store.specs.Laid.{laid_on}
 
 filter_first : (p : Delta → Bool) (kept : Bool) (d : Delta) (rest : List Delta)
     → filter p (cond kept (d ∷ rest) rest) ≡ cond (kept && p d) (d ∷ filter p rest) (filter p rest)

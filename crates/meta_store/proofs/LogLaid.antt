@@ -14,11 +14,11 @@ use Rattle.lufs_base.specs.declared.delta.DeltaKind.TheVariants.{Group, Inode, C
 use Rattle.volume_model.specs.declared.log.Header.{Header}
 use Rattle.volume_model.specs.declared.log.Tx.{Tx}
 use Rattle.volume_model.specs.Format.{Image}
-use Rattle.volume_model.specs.Log.{Transactions, Listed, BadRun, Log, WithHeader, Run, Whole, Short, Bad, may_be_logged, is_part_of_block, is_cancel, is_zero_block, with_tx, transactions_at, transactions_from, row_of, payload_of, run_of, ring_from, log_after, log_with, log_of, cancels, live_deltas, byte_of, given_at, replayed, recovered, recovered_by}
+use Rattle.volume_model.specs.Log.{Transactions, Listed, BadRun, Log, WithHeader, Run, Whole, Short, Bad, may_be_logged, is_part_of_block, is_cancel, is_zero_block, with_tx, transactions_at, transactions_from, row_of, payload_of, run_of, ring_from, log_after, log_with, log_of, cancels, live_deltas, byte_of, given_at, replayed, recovered, recovered_by, lays_on}
 use Rattle.volume_model.proofs.ReplayLaws.{length-replayed, byte_replayed}
 use Rattle.log_laws.proofs.WholeRun.{whole_loggable}
 use Rattle.meta_store.specs.LaidSize.{length-laid_over}
-use Rattle.meta_store.specs.Laid.{given_in_block, laid_byte, laid_over, lays_on, laid_on, IsWithinBlock, AreWithinBlocks}
+use Rattle.meta_store.specs.Laid.{given_in_block, laid_byte, laid_over, laid_on, IsWithinBlock, AreWithinBlocks}
 use Rattle.meta_store.proofs.LaidBlocks.{laid_over_at}
 
 -- a cancel gives no byte

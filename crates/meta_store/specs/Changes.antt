@@ -9,12 +9,12 @@ use Rattle.lufs_base.specs.declared.numbers.BlockNo.{BlockNo}
 use Rattle.volume_model.specs.declared.device_call.DeviceCall.{DeviceCall}
 use Rattle.volume_model.specs.declared.device_call.DeviceCall.TheVariants.{Write}
 use Rattle.volume_model.specs.Format.{Image, Blocks, sector, block}
-use Rattle.volume_model.specs.Log.{delta_bytes}
+use Rattle.volume_model.specs.Log.{delta_bytes, lays_on}
 use Rattle.volume_model.specs.Sound.{is_among}
 use Rattle.volume_model.specs.Crash.{image_after, written_to}
 use Rattle.meta_store.specs.declared.change.Change.{Change}
 use Rattle.meta_store.specs.declared.change.RawWrite.{RawWrite}
-use Rattle.meta_store.specs.Laid.{lays_on, laid_over}
+use Rattle.meta_store.specs.Laid.{laid_over}
 use Rattle.meta_store.specs.Merged.{is_group, all_merged}
 use Rattle.meta_store.specs.Changing.{IsKept, AllTold}
 

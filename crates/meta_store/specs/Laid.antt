@@ -4,7 +4,7 @@ use Rattle.std.specs.List.{AllByRecursion, filter, filter_map, last_or, range_wi
 use Rattle.lufs_base.specs.declared.delta.Delta.{Delta}
 use Rattle.volume_model.specs.declared.log.Tx.{Tx}
 use Rattle.volume_model.specs.Format.{Image}
-use Rattle.volume_model.specs.Log.{is_cancel, live_deltas, byte_of, given_at}
+use Rattle.volume_model.specs.Log.{is_cancel, live_deltas, byte_of, given_at, lays_on}
 
 -- what a delta gives for the byte at this place of its block
 abbrev pub given_in_block : ℕ → Delta → Option ℕ
@@ -26,10 +26,6 @@ laid_block deltas bytes = map (λ place. laid_byte deltas place (slice_index byt
 unfoldable pub laid_over : (ℕ → List Delta) → Image → Image
 laid_over deltas_of image =
     map (λ address. laid_byte (deltas_of (address / 4096)) (address % 4096) (slice_index image address)) (range_with_len 0 (length image))
-
--- the delta lays bytes over this block
-abbrev pub lays_on : ℕ → Delta → Bool
-lays_on b d = d.home / 4096 == b && not (is_cancel d.kind)
 
 -- what a replay of these transactions lays over a block, in order
 unfoldable pub laid_on : List Tx → ℕ → List Delta

@@ -10,3 +10,4 @@ pub mod Suited
 pub mod Conditions
 pub mod Plain
 pub mod Worked
+pub mod Deltas

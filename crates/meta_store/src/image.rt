@@ -12,7 +12,7 @@ use crate::RawWrite;
 use crate::laid::block_of;
 use crate::lay::lay_delta;
 use cyl_groups::{BadGroup, is_set, read_group};
-use lufs_base::{BLOCK, BlockNo, Delta, Geometry, Region, SECTOR};
+use lufs_base::{BLOCK, BlockNo, Delta, Geometry, SECTOR};
 
 /// The bytes of a group record.
 const GROUP: usize = 416;
@@ -52,15 +52,6 @@ pub(crate) fn lay_all(deltas: &[Delta], image: &mut Vec<u8>)
     for delta in deltas {
         lay_in_image(delta, image);
     }
-}
-
-// Whether b is a body block.
-pub(crate) fn is_body(g: &Geometry, b: BlockNo) -> bool
-    requires geometry { IsGeometry g.now }
-    requires inside { b.0 < blocks_of g.now }
-    ensures { result ≡ is_body g.now b.0 }
-{
-    matches!(g.region(b), Region::Body(_))
 }
 
 // Whether the bit of a body block is set.

@@ -5,10 +5,9 @@ ghost use Rattle.lufs_base.specs.declared.geometry.Geometry.{Geometry};
 ghost use Rattle.volume_model.specs.declared.log.Header.{Header};
 ghost use Rattle.volume_model.specs.declared.log.Tx.{Tx};
 ghost use Rattle.volume_model.specs.Format.{Image};
-ghost use Rattle.volume_model.specs.Log.{WithHeader, Listed, log_of, is_cancel, recovered};
+ghost use Rattle.volume_model.specs.Log.{WithHeader, Listed, log_of, is_cancel, recovered, lays_on};
 ghost use Rattle.sector_disk.specs.Disk.{DiskTold};
 ghost use Rattle.meta_store.specs.declared.laid.LaidDeltas.{LaidDeltas};
-ghost use Rattle.meta_store.specs.Laid.{lays_on};
 ghost use Rattle.meta_store.specs.Index.{deltas_of, IsIndexOf, replayed_told};
 
 use lufs_base::{BLOCK, BlockNo, Bytes, Delta, DeltaKind, DeltaList, Mem};

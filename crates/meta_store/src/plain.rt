@@ -7,7 +7,7 @@ ghost use Rattle.volume_model.specs.Log.{AreLoggable};
 ghost use Rattle.meta_store.specs.Store.{AreBlocks, AreBlocksRead, plain_told};
 ghost use Rattle.meta_store.specs.Changes.{amended, is_group_at};
 
-use crate::image::{block_bit, is_body, lay_all, put, write_raw};
+use crate::image::{block_bit, lay_all, put, write_raw};
 use crate::merge::all_merged;
 use crate::{Change, Freed, MetaRead, MetaStore, StoreError};
 use lufs_base::{BLOCK, BlockNo, Bytes, Delta, DeltaKind, DiskFault, Geometry, Mem};
@@ -166,7 +166,7 @@ fn amend_held(alloc: Global, held: &mut Vec<Delta>, home: u64, bytes: &[u8])
 
 impl MetaStore for PlainStore {
     fn is_released(&self, b: BlockNo) -> bool {
-        is_body(&self.geometry, b) && !block_bit(&self.geometry, b, self.image.as_slice())
+        self.geometry.is_body(b) && !block_bit(&self.geometry, b, self.image.as_slice())
     }
 
     fn apply(&mut self, alloc: Global, change: &Change) -> Result<(), StoreError> {

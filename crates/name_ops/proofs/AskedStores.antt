@@ -16,9 +16,9 @@ use Rattle.meta_store.specs.declared.change.Change.{Change}
 use Rattle.meta_store.specs.Changes.{changed}
 use Rattle.meta_store.specs.NoChange.{no_change}
 use Rattle.meta_store.proofs.ImageLaid.{nothing_over}
-use Rattle.dir_ops.specs.Rooms.{room_for}
-use Rattle.dir_ops.specs.declared.space.Room.{Room}
-use Rattle.dir_ops.proofs.EditedTrees.{stored_numbers}
+use Rattle.dir_reads.specs.Rooms.{room_for}
+use Rattle.dir_reads.specs.declared.space.Room.{Room}
+use Rattle.dir_reads.proofs.StoredNumbers.{stored_numbers}
 use Rattle.block_alloc.specs.Taking.{AreFree}
 use Rattle.inode_reads.specs.InodeOf.{IsRecordOf, IsInodeOf}
 use Rattle.name_ops.specs.Asked.{IsWritable, name_blocks, blocks_by, lack_by}

@@ -19,18 +19,18 @@ use Rattle.history_model.specs.Effects.{new_file, making}
 use Rattle.history_model.specs.Wants.{blocks_for_name}
 use Rattle.history_model.specs.Refusals.{Proceed, decision_at}
 use Rattle.history_model.specs.Replies.{tree_after}
-use Rattle.history_model.proofs.CarriedOutLaws.{create_goes}
+use Rattle.history_rules.proofs.CarriedOutLaws.{create_goes}
 use Rattle.change_laws.specs.Plans.{HoldMore}
 use Rattle.meta_store.specs.declared.change.Change.{Change}
 use Rattle.meta_store.specs.Changing.{AllTold}
 use Rattle.meta_store.specs.NoChange.{no_change}
-use Rattle.meta_draft.specs.Deltas.{inode_delta}
+use Rattle.meta_store.specs.Deltas.{inode_delta}
 use Rattle.meta_draft.specs.Drafted.{drafted_blocks, with_delta}
 use Rattle.draft_laws.specs.Drafts.{Draws, links_at}
 use Rattle.draft_laws.proofs.Ends.{draft_begun, nothing_drafted}
 use Rattle.draft_laws.proofs.NewSteps.{file_drawn}
 use Rattle.dir_ops.specs.Edits.{DrawsTree, MayEnter}
-use Rattle.change_rules.specs.Planned.{MayPlan, IsHandFor, IsDrawn}
+use Rattle.plan_ends.specs.Planned.{MayPlan, IsHandFor, IsDrawn}
 use Rattle.name_ops.specs.NewRecords.{file_record}
 use Rattle.name_ops.proofs.MadeNodes.{spent, stored, may_enter, made_drawn}
 

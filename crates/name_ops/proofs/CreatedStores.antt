@@ -19,10 +19,10 @@ use Rattle.history_model.specs.Replies.{tree_after}
 use Rattle.meta_store.specs.declared.change.Change.{Change}
 use Rattle.meta_store.specs.Changing.{AllTold}
 use Rattle.meta_store.specs.NoChange.{no_change}
-use Rattle.meta_draft.specs.Deltas.{inode_delta}
+use Rattle.meta_store.specs.Deltas.{inode_delta}
 use Rattle.meta_draft.specs.Drafted.{with_delta}
 use Rattle.dir_ops.proofs.ToldEdits.{EditsDrafts}
-use Rattle.change_rules.specs.Planned.{IsDrawn}
+use Rattle.plan_ends.specs.Planned.{IsDrawn}
 use Rattle.std.specs.Prelude.{not, is_some}
 use Rattle.name_ops.specs.NewRecords.{file_record}
 use Rattle.name_ops.proofs.Created.{mid, drawn_file, file_may_enter, created}

@@ -11,16 +11,16 @@ use Rattle.volume_model.specs.Sound.{is_directory_in as is_directory_at}
 use Rattle.history_model.specs.Places.{directory_slots, is_directory_in, is_dots, lookup}
 use Rattle.history_model.specs.Refusals.{is_empty_in}
 use Rattle.history_model.specs.Right.{IsRightWithin}
-use Rattle.history_model.proofs.MakeLaws.{directory_in}
-use Rattle.history_model.proofs.EnterLaws.{slot_sum}
-use Rattle.history_model.proofs.SlotRuleLaws.{one_if, of_entry, of_inode, in_use}
-use Rattle.history_model.proofs.RightNameLaws.{entry_other}
-use Rattle.history_model.proofs.ChangedRightLaws.{BeginsAs, begin_parts, good_parts}
-use Rattle.history_model.proofs.DroppedRightLaws.{row_alike}
-use Rattle.history_model.proofs.CountedLaws.{sum_at, listed_below}
-use Rattle.history_model.proofs.RemovedRightLaws.{slots_as}
-use Rattle.history_model.proofs.RemovedDirectoryLaws.{not_dots}
-use Rattle.history_model.proofs.RenamedRightLaws.{rules, directory_less, as_name, real_directory, real_above, name_listed, empty_entries, not_empty}
+use Rattle.history_rules.proofs.MakeLaws.{directory_in}
+use Rattle.history_rules.proofs.EnterLaws.{slot_sum}
+use Rattle.history_rules.proofs.SlotRuleLaws.{one_if, of_entry, of_inode, in_use}
+use Rattle.history_rules.proofs.RightNameLaws.{entry_other}
+use Rattle.history_rules.proofs.ChangedRightLaws.{BeginsAs, begin_parts, good_parts}
+use Rattle.history_rules.proofs.DroppedRightLaws.{row_alike}
+use Rattle.history_rules.proofs.CountedLaws.{sum_at, listed_below}
+use Rattle.history_rules.proofs.RemovedRightLaws.{slots_as}
+use Rattle.history_rules.proofs.RemovedDirectoryLaws.{not_dots}
+use Rattle.history_rules.proofs.RenamedRightLaws.{rules, directory_less, as_name, real_directory, real_above, name_listed, empty_entries, not_empty}
 
 two_used : (s t : Slot) (more : List Slot) → not (s.ino == 0) ≡ true → not (t.ino == 0) ≡ true → in_use (s ∷ (t ∷ more)) ≡ s ∷ (t ∷ in_use more)
 two_used s t more first second = λ x. cond (first x) (s ∷ cond (second x) (t ∷ in_use more) (in_use more)) (cond (second x) (t ∷ in_use more) (in_use more))

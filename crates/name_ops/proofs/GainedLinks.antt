@@ -16,7 +16,7 @@ use Rattle.volume_laws.proofs.NodeFacts.{node_in_tree}
 use Rattle.volume_laws.proofs.NodeFields.{attributes_of_its_node}
 use Rattle.change_laws.specs.Plans.{HasInode, KeepsBlocks, with_attributes}
 use Rattle.meta_store.specs.declared.change.Change.{Change}
-use Rattle.meta_draft.specs.Deltas.{inode_delta}
+use Rattle.meta_store.specs.Deltas.{inode_delta}
 use Rattle.meta_draft.specs.Drafted.{drafted_blocks, with_delta}
 use Rattle.draft_laws.specs.Drafts.{IsDraft, links_at}
 use Rattle.draft_laws.proofs.RecordSteps.{attributes_drawn}

@@ -14,11 +14,11 @@ use Rattle.volume_laws.proofs.ClaimFacts.{length-inodes, used_in_volume}
 use Rattle.volume_laws.proofs.SameReading.{used_from_record}
 use Rattle.volume_laws.proofs.NodeFacts.{node_in_tree}
 use Rattle.volume_laws.proofs.NodeFields.{attributes_of_its_node}
-use Rattle.history_model.proofs.NodeLaws.{with_node-here, with_node-other}
+use Rattle.history_rules.proofs.NodeLaws.{with_node-here, with_node-other}
 use Rattle.change_laws.specs.Plans.{HasInode, KeepsBlocks, with_attributes}
 use Rattle.meta_store.specs.declared.change.Change.{Change}
 use Rattle.meta_store.specs.Changes.{changed}
-use Rattle.meta_draft.specs.Deltas.{inode_delta}
+use Rattle.meta_store.specs.Deltas.{inode_delta}
 use Rattle.meta_draft.specs.Drafted.{drafted_blocks, with_delta}
 use Rattle.draft_laws.specs.Drafts.{IsDraft}
 use Rattle.draft_laws.proofs.RecordSteps.{attributes_drawn}

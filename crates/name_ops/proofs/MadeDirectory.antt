@@ -23,7 +23,7 @@ use Rattle.history_model.specs.Effects.{new_subdirectory, making}
 use Rattle.history_model.specs.Wants.{blocks_for_name}
 use Rattle.history_model.specs.Refusals.{Proceed, decision_at}
 use Rattle.history_model.specs.Replies.{tree_after}
-use Rattle.history_model.proofs.CarriedOutLaws.{mkdir_goes}
+use Rattle.history_rules.proofs.CarriedOutLaws.{mkdir_goes}
 use Rattle.change_laws.specs.Hands.{times}
 use Rattle.change_laws.specs.Plans.{HoldMore}
 use Rattle.change_laws.proofs.Counts.{times-cons}
@@ -35,8 +35,8 @@ use Rattle.draft_laws.specs.Drafts.{Draws, links_at}
 use Rattle.draft_laws.proofs.Ends.{draft_begun, nothing_drafted}
 use Rattle.draft_laws.proofs.NewSteps.{directory_drawn, once_first}
 use Rattle.dir_ops.specs.Edits.{DrawsTree, MayEnter}
-use Rattle.change_rules.specs.Planned.{MayPlan, IsHandFor, IsDrawn}
-use Rattle.change_rules.proofs.TreeTold.{links_told}
+use Rattle.plan_ends.specs.Planned.{MayPlan, IsHandFor, IsDrawn}
+use Rattle.plan_ends.proofs.TreeTold.{links_told}
 use Rattle.name_ops.specs.NewRecords.{directory_record, with_directory}
 use Rattle.name_ops.specs.GainedNames.{HasLinkMore}
 use Rattle.name_ops.proofs.Created.{zero_in, same_links}

@@ -22,13 +22,13 @@ use Rattle.meta_store.specs.Changing.{AllTold}
 use Rattle.meta_store.specs.Changes.{numbers_in}
 use Rattle.meta_store.specs.NoChange.{no_change}
 use Rattle.dir_ops.proofs.ToldEdits.{EditsDrafts}
-use Rattle.change_rules.specs.Planned.{IsDrawn}
-use Rattle.change_rules.proofs.TreeTold.{right_told}
-use Rattle.history_model.proofs.RightNameLaws.{no_zero}
+use Rattle.plan_ends.specs.Planned.{IsDrawn}
+use Rattle.plan_ends.proofs.TreeTold.{right_told}
+use Rattle.history_rules.proofs.RightNameLaws.{no_zero}
 use Rattle.volume_model.specs.Format.{block}
 use Rattle.volume_model.specs.Sound.{Node, StandsFor, names_in_tree}
-use Rattle.history_model.proofs.MakeLaws.{directory_in}
-use Rattle.history_model.proofs.NamedRightLaws.{below, directory_as}
+use Rattle.history_rules.proofs.MakeLaws.{directory_in}
+use Rattle.history_rules.proofs.NamedRightLaws.{below, directory_as}
 use Rattle.name_ops.specs.NewRecords.{directory_record, with_directory}
 use Rattle.name_ops.proofs.GainedLinks.{GainsInDrafts}
 use Rattle.name_ops.proofs.MadeNodes.{ends_in_directory}

@@ -25,9 +25,9 @@ use Rattle.history_model.specs.Refusals.{Proceed, most_chunks, cannot_grow, deci
 use Rattle.history_model.specs.Replies.{tree_after}
 use Rattle.history_model.specs.Histories.{IsUsable}
 use Rattle.history_model.specs.Right.{IsRightWithin}
-use Rattle.history_model.proofs.AccountLaws.{EndsIn, ends_in}
-use Rattle.history_model.proofs.MakeLaws.{directory_in}
-use Rattle.history_model.proofs.NodeLaws.{with_node-other}
+use Rattle.history_rules.proofs.AccountLaws.{EndsIn, ends_in}
+use Rattle.history_rules.proofs.MakeLaws.{directory_in}
+use Rattle.history_rules.proofs.NodeLaws.{with_node-other}
 use Rattle.change_laws.specs.Hands.{times}
 use Rattle.change_laws.specs.Plans.{HoldMore}
 use Rattle.change_laws.proofs.Counts.{times-append, holds_of, holds_of_all}
@@ -38,9 +38,9 @@ use Rattle.meta_draft.specs.Drafted.{drafted_blocks}
 use Rattle.draft_laws.specs.Drafts.{IsDraft, MayAttach, links_at}
 use Rattle.draft_laws.proofs.NewSteps.{once_first}
 use Rattle.dir_ops.specs.Edits.{MayEnter}
-use Rattle.change_rules.specs.Planned.{MayPlan, IsDrawn}
-use Rattle.change_rules.proofs.TreeTold.{right_told, links_told, edits_of_call}
-use Rattle.change_rules.proofs.LinksMade.{made_links, free_links}
+use Rattle.plan_ends.specs.Planned.{MayPlan, IsDrawn}
+use Rattle.plan_ends.proofs.TreeTold.{right_told, links_told, edits_of_call}
+use Rattle.plan_ends.proofs.LinksMade.{made_links, free_links}
 
 -- the walk of a call with one path ends in a directory
 pub ends_in_directory : (tree : Tree) (cred : Cred) (call : Call) (p : WalkEnd) → ends_of tree cred call ≡ Ok (One p) → is_directory_in tree p.dir ≡ true

@@ -6,8 +6,8 @@ use Rattle.volume_model.specs.Sound.{Tree, directory_blocks}
 use Rattle.history_model.specs.Places.{chunks_in}
 use Rattle.history_model.specs.Refusals.{cannot_grow}
 use Rattle.history_model.specs.Wants.{has_no_room}
-use Rattle.dir_ops.specs.Rooms.{room_for}
-use Rattle.dir_ops.specs.declared.space.Room.TheVariants.{Fits, NewChunk, NewBlock, Past}
+use Rattle.dir_reads.specs.Rooms.{room_for}
+use Rattle.dir_reads.specs.declared.space.Room.TheVariants.{Fits, NewChunk, NewBlock, Past}
 use Rattle.name_ops.specs.Asked.{name_blocks, blocks_by}
 
 -- the blocks of one chunk more

@@ -22,7 +22,7 @@ use Rattle.meta_store.specs.declared.change.Change.{Change}
 use Rattle.meta_store.specs.Changing.{AllTold}
 use Rattle.meta_store.specs.NoChange.{no_change}
 use Rattle.draft_laws.specs.Drafts.{IsRecorded}
-use Rattle.change_rules.specs.Planned.{ino_of, MayPlan, IsHandFor, IsPlanned, IsDrawn, IsTight}
+use Rattle.plan_ends.specs.Planned.{ino_of, MayPlan, IsHandFor, IsPlanned, IsDrawn, IsTight}
 use Rattle.name_ops.specs.Asked.{asked}
 use Rattle.name_ops.specs.declared.wanted.Wanted.{Wanted}
 use Rattle.name_ops.specs.declared.wanted.Wanted.TheVariants.{Refused, Wants}

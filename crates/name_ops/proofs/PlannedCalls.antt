@@ -20,8 +20,8 @@ use Rattle.meta_store.specs.declared.change.Change.{Change}
 use Rattle.meta_store.specs.Changing.{AllTold}
 use Rattle.meta_store.specs.NoChange.{no_change}
 use Rattle.draft_laws.proofs.Ends.{draft_begun, holds_none}
-use Rattle.change_rules.specs.Planned.{MayPlan, IsPlanned, IsDrawn, IsTight}
-use Rattle.change_rules.proofs.TreeTold.{call_stands}
+use Rattle.plan_ends.specs.Planned.{MayPlan, IsPlanned, IsDrawn, IsTight}
+use Rattle.plan_ends.proofs.TreeTold.{call_stands}
 use Rattle.name_ops.specs.Asked.{asked}
 use Rattle.name_ops.specs.declared.wanted.Wanted.TheVariants.{Refused, Wants}
 

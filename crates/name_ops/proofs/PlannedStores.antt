@@ -21,13 +21,13 @@ use Rattle.history_model.specs.Wants.{wants_at}
 use Rattle.history_model.specs.Refusals.{Decision, Refuse, Unchanged, Proceed, decision_at}
 use Rattle.history_model.specs.Replies.{reply_at, tree_after}
 use Rattle.history_model.specs.Histories.{IsUsable}
-use Rattle.history_model.proofs.MakeLaws.{refusing}
+use Rattle.history_rules.proofs.MakeLaws.{refusing}
 use Rattle.meta_store.specs.declared.change.Change.{Change}
 use Rattle.meta_store.specs.Changing.{AllTold}
 use Rattle.meta_store.specs.NoChange.{no_change}
 use Rattle.draft_laws.specs.Drafts.{IsRecorded, IsDraft}
 use Rattle.dir_ops.specs.Edits.{DrawsTree, MayEnter}
-use Rattle.change_rules.specs.Planned.{ino_of, MayPlan, IsHandFor, IsPlanned, IsDrawn, IsTight}
+use Rattle.plan_ends.specs.Planned.{ino_of, MayPlan, IsHandFor, IsPlanned, IsDrawn, IsTight}
 use Rattle.name_ops.specs.Asked.{asked}
 use Rattle.name_ops.specs.declared.wanted.Wanted.{Wanted}
 use Rattle.name_ops.specs.declared.wanted.Wanted.TheVariants.{Refused, Wants}

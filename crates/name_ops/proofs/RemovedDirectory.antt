@@ -15,8 +15,8 @@ use Rattle.history_model.specs.Ends.{One}
 use Rattle.history_model.specs.Edits.{Drop, TakeOut, SetTime, edited, edited_all}
 use Rattle.history_model.specs.Refusals.{Proceed, is_empty_in, decision_at}
 use Rattle.history_model.specs.Replies.{tree_after}
-use Rattle.history_model.proofs.AccountLaws.{IsIn}
-use Rattle.history_model.proofs.CarriedOutLaws.{rmdir_goes}
+use Rattle.history_rules.proofs.AccountLaws.{IsIn}
+use Rattle.history_rules.proofs.CarriedOutLaws.{rmdir_goes}
 use Rattle.meta_store.specs.declared.change.Change.{Change}
 use Rattle.meta_store.specs.Changing.{AllTold}
 use Rattle.meta_store.specs.NoChange.{no_change}
@@ -24,8 +24,8 @@ use Rattle.meta_draft.specs.Drafted.{drafted_blocks}
 use Rattle.draft_laws.specs.Drafts.{Draws, links_at}
 use Rattle.dir_ops.specs.Edits.{DrawsTree}
 use Rattle.file_map.specs.Dropped.{IsAsItWas}
-use Rattle.change_rules.specs.Planned.{MayPlan, IsDrawn}
-use Rattle.change_rules.proofs.LinksRemoved.{removed_links}
+use Rattle.plan_ends.specs.Planned.{MayPlan, IsDrawn}
+use Rattle.plan_ends.proofs.LinksRemoved.{removed_links}
 use Rattle.name_ops.specs.LostNames.{HasLinkLess}
 use Rattle.name_ops.proofs.EmptyDirectories as empty_directories
 use Rattle.name_ops.proofs.TakenOut.{right, ends, final, parted, drawn_after, its_tree, still, told_links}

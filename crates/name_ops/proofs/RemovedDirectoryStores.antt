@@ -12,7 +12,7 @@ use Rattle.meta_store.specs.declared.change.Change.{Change}
 use Rattle.meta_store.specs.Changing.{AllTold}
 use Rattle.meta_store.specs.NoChange.{no_change}
 use Rattle.dir_ops.proofs.ToldEdits.{EditsDrafts}
-use Rattle.change_rules.specs.Planned.{ino_of}
+use Rattle.plan_ends.specs.Planned.{ino_of}
 use Rattle.name_ops.proofs.PlannedStores.{HasRoom}
 use Rattle.name_ops.proofs.LostLinks.{LosesInDrafts}
 use Rattle.name_ops.proofs.RemovedStores.{DropsInDrafts, edits_as, loses_as, drops_as}

@@ -14,8 +14,8 @@ use Rattle.history_model.specs.Places.{links_in}
 use Rattle.history_model.specs.Walk.{WalkEnd}
 use Rattle.history_model.specs.Edits.{TakeOut, SetTime, edited}
 use Rattle.history_model.specs.Refusals.{Refuse, Proceed}
-use Rattle.history_model.proofs.MakeLaws.{directory_in}
-use Rattle.history_model.proofs.NamedRightLaws.{found_used}
+use Rattle.history_rules.proofs.MakeLaws.{directory_in}
+use Rattle.history_rules.proofs.NamedRightLaws.{found_used}
 use Rattle.meta_store.specs.declared.change.Change.{Change}
 use Rattle.meta_store.specs.Changing.{AllTold}
 use Rattle.meta_store.specs.NoChange.{no_change}
@@ -23,7 +23,7 @@ use Rattle.draft_laws.specs.Drafts.{IsDraft, Draws}
 use Rattle.dir_ops.proofs.ToldEdits.{EditsDrafts}
 use Rattle.file_map.specs.Dropped.{IsAsItWas}
 use Rattle.inode_reads.specs.InodeOf.{IsRecordOf}
-use Rattle.change_rules.specs.Planned.{ino_of}
+use Rattle.plan_ends.specs.Planned.{ino_of}
 use Rattle.name_ops.proofs.AskedStores.{IsReadByTree}
 use Rattle.name_ops.proofs.PlannedStores.{HasRoom}
 use Rattle.name_ops.proofs.LostLinks.{LosesInDrafts}

@@ -20,7 +20,7 @@ use Rattle.history_model.specs.Wants.{Wanted, nothing, wants_at}
 use Rattle.history_model.specs.Refusals.{Proceed, decision_at}
 use Rattle.history_model.specs.Replies.{tree_after}
 use Rattle.history_model.specs.Right.{IsRightWithin}
-use Rattle.history_model.proofs.AccountLaws.{IsIn, EndsIn, ends_in}
+use Rattle.history_rules.proofs.AccountLaws.{IsIn, EndsIn, ends_in}
 use Rattle.change_laws.specs.Hands.{HoldTheSame}
 use Rattle.change_laws.specs.Plans.{HoldMore}
 use Rattle.meta_store.specs.declared.change.Change.{Change}
@@ -32,8 +32,8 @@ use Rattle.draft_laws.proofs.Ends.{draft_begun, nothing_drafted}
 use Rattle.draft_laws.proofs.FreedInode.{hands_alike}
 use Rattle.dir_ops.specs.Edits.{DrawsTree}
 use Rattle.file_map.specs.Dropped.{IsAsItWas}
-use Rattle.change_rules.specs.Planned.{MayPlan, IsHandFor, IsDrawn}
-use Rattle.change_rules.proofs.TreeTold.{right_told, links_told, edits_of_call}
+use Rattle.plan_ends.specs.Planned.{MayPlan, IsHandFor, IsDrawn}
+use Rattle.plan_ends.proofs.TreeTold.{right_told, links_told, edits_of_call}
 
 none_in : (o : Option ℕ) → is_some o ≡ false → o ≡ None
 none_in None none = refl

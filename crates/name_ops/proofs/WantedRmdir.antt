@@ -20,7 +20,7 @@ use Rattle.meta_store.specs.declared.change.Change.{Change}
 use Rattle.meta_store.specs.Changes.{changed}
 use Rattle.meta_store.specs.NoChange.{no_change}
 use Rattle.meta_store.proofs.ImageLaid.{nothing_over}
-use Rattle.dir_ops.proofs.EditedTrees.{stored_numbers}
+use Rattle.dir_reads.proofs.StoredNumbers.{stored_numbers}
 use Rattle.name_ops.specs.Asked.{IsWritable}
 use Rattle.name_ops.specs.declared.wanted.Wanted.{Wanted}
 use Rattle.name_ops.specs.declared.wanted.Wanted.TheVariants.{Refused, Wants}

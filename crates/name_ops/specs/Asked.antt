@@ -11,8 +11,8 @@ use Rattle.history_model.specs.Wants as model
 use Rattle.history_model.specs.Wants.{blocks_for_name}
 use Rattle.history_model.specs.Refusals.{Decision, Refuse, Unchanged, Proceed, cannot_grow}
 use Rattle.inode_reads.specs.InodeOf.{IsInodeOf}
-use Rattle.dir_ops.specs.declared.space.Room.{Room}
-use Rattle.dir_ops.specs.declared.space.Room.TheVariants.{Fits, NewChunk, NewBlock, Past}
+use Rattle.dir_reads.specs.declared.space.Room.{Room}
+use Rattle.dir_reads.specs.declared.space.Room.TheVariants.{Fits, NewChunk, NewBlock, Past}
 use Rattle.name_ops.specs.declared.wanted.Wanted.{Wanted}
 use Rattle.name_ops.specs.declared.wanted.Wanted.TheVariants.{Refused, Wants}
 

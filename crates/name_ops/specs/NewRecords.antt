@@ -5,7 +5,7 @@ use Rattle.tree_types.specs.declared.credentials.Cred.{Cred}
 use Rattle.volume_model.specs.declared.inode.Dinode.{Dinode}
 use Rattle.volume_model.specs.Format.{dinode_bytes, chunk_bytes, new_directory}
 use Rattle.meta_store.specs.declared.change.Change.{Change}
-use Rattle.meta_draft.specs.Deltas.{inode_delta, chunk_delta, zero_delta}
+use Rattle.meta_store.specs.Deltas.{inode_delta, chunk_delta, zero_delta}
 use Rattle.meta_draft.specs.Drafted.{with_delta}
 
 -- an empty file with one name

@@ -12,7 +12,7 @@ ghost use Rattle.inode_reads.specs.InodeOf.{IsInodeOf};
 ghost use Rattle.name_ops.specs.Asked.{IsWritable, name_blocks, blocks_by, lack_by};
 
 use block_alloc::{Hands, count_free};
-use dir_ops::{Room, can_enter};
+use dir_reads::{Room, can_enter};
 use inode_reads::{may, read_inode};
 use lufs_base::{DiskFault, Ino, Name};
 use meta_draft::Draft;

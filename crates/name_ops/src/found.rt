@@ -10,7 +10,7 @@ ghost use Rattle.meta_store.specs.Store.{IsUnchanged};
 ghost use Rattle.meta_store.specs.Changing.{IsKept};
 ghost use Rattle.meta_store.specs.declared.error.StoreError.TheVariants.{Disk};
 
-use dir_ops::is_empty;
+use dir_reads::is_empty;
 use inode_reads::{is_directory, read_inode};
 use lufs_base::{DiskFault, Ino};
 use meta_draft::Draft;

@@ -1,7 +1,5 @@
 //! Inodes that get a name more, in a draft.
-ghost use Rattle.std.specs.Prelude.{◌≡◌, ◌≤◌, ◌+◌, nat_lt, OnOk, IsErrOf};
-ghost use Rattle.lufs_base.specs.Layout.{IsGeometry};
-ghost use Rattle.volume_model.specs.Format.{inodes_of};
+ghost use Rattle.std.specs.Prelude.{◌≡◌, ◌≤◌, ◌+◌, OnOk, IsErrOf};
 ghost use Rattle.volume_model.specs.Log.{delta_bytes};
 ghost use Rattle.sector_disk.specs.Disk.{FailsJustAt};
 ghost use Rattle.meta_store.specs.Store.{IsUnchanged};
@@ -10,18 +8,10 @@ ghost use Rattle.meta_store.specs.declared.error.StoreError.TheVariants.{Disk};
 ghost use Rattle.dir_ops.specs.Edits.{PutsDeltas};
 ghost use Rattle.name_ops.specs.GainedNames.{GainsLink};
 
-use lufs_base::{Geometry, Ino};
+use lufs_base::Ino;
 use meta_draft::Draft;
 use meta_store::{MetaRead, StoreError};
 use std::alloc::Global;
-
-// Whether the volume has inode `i`.
-fn is_inode(g: &Geometry, i: Ino) -> bool
-    requires { IsGeometry g.now }
-    ensures { result ≡ nat_lt i.0 (inodes_of g.now) }
-{
-    i.0 < g.groups * g.ipg
-}
 
 /// Adds one link to the record of inode `i`, if it has room for one. One that isn't in use stays so. After an `Err` the
 /// draft is of no use.
@@ -39,7 +29,7 @@ pub(crate) fn gain_link<S: MetaRead>(
     ensures failure { FailsJustAt (IsErrOf result Disk) (S.store store.old).disk (S.store store.new).disk }
 {
     let g = *store.geometry();
-    if !is_inode(&g, i) {
+    if !g.is_inode(i) {
         return Ok(());
     }
     let Some(mut d) = draft.inode(store, i)? else {

@@ -1,7 +1,5 @@
 //! Inodes that lose a name, in a draft.
-ghost use Rattle.std.specs.Prelude.{◌≡◌, ◌≢◌, ◌≤◌, ◌+◌, ◌*◌, nat_lt, OnOk, IsErrOf};
-ghost use Rattle.lufs_base.specs.Layout.{IsGeometry};
-ghost use Rattle.volume_model.specs.Format.{inodes_of};
+ghost use Rattle.std.specs.Prelude.{◌≡◌, ◌≢◌, ◌≤◌, ◌+◌, ◌*◌, OnOk, IsErrOf};
 ghost use Rattle.volume_model.specs.Log.{delta_bytes};
 ghost use Rattle.sector_disk.specs.Disk.{FailsJustAt};
 ghost use Rattle.meta_store.specs.Store.{IsUnchanged};
@@ -11,18 +9,10 @@ ghost use Rattle.file_map.specs.Dropped.{IsDropped};
 ghost use Rattle.name_ops.specs.LostNames.{LosesLink};
 
 use file_map::drop_inode;
-use lufs_base::{Geometry, Ino};
+use lufs_base::Ino;
 use meta_draft::Draft;
 use meta_store::{MetaRead, StoreError};
 use std::alloc::Global;
-
-// Whether the volume has inode `i`.
-fn is_inode(g: &Geometry, i: Ino) -> bool
-    requires { IsGeometry g.now }
-    ensures { result ≡ nat_lt i.0 (inodes_of g.now) }
-{
-    i.0 < g.groups * g.ipg
-}
 
 /// Takes one link from the record of inode `i`. One that isn't in use stays so. After an `Err` the draft is of no use.
 pub(crate) fn lose_link<S: MetaRead>(
@@ -39,7 +29,7 @@ pub(crate) fn lose_link<S: MetaRead>(
     ensures failure { FailsJustAt (IsErrOf result Disk) (S.store store.old).disk (S.store store.new).disk }
 {
     let g = *store.geometry();
-    if !is_inode(&g, i) {
+    if !g.is_inode(i) {
         return Ok(());
     }
     let Some(mut d) = draft.inode(store, i)? else {

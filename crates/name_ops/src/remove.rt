@@ -16,7 +16,7 @@ ghost use Rattle.meta_store.specs.Store.{IsUnchanged};
 ghost use Rattle.meta_store.specs.Changing.{IsKept, all_told};
 ghost use Rattle.meta_store.specs.Conditions.{MayApply};
 ghost use Rattle.meta_store.specs.declared.error.StoreError.TheVariants.{Disk};
-ghost use Rattle.change_rules.specs.Planned.{ino_of, MayPlan, IsPlanned, IsDrawn};
+ghost use Rattle.plan_ends.specs.Planned.{ino_of, MayPlan, IsPlanned, IsDrawn};
 ghost use Rattle.path_walk.specs.Answers.{end_of};
 ghost use Rattle.name_ops.specs.Asked.{asked};
 
@@ -24,13 +24,13 @@ use crate::Wanted;
 use crate::asking::writable;
 use crate::found::is_directory_at;
 use crate::links::lose_name;
-use change_rules::{finished, set_time};
 use dir_ops::remove;
 use file_map::IndexList;
 use inode_reads::read_inode;
 use meta_draft::Draft;
 use meta_store::{Change, MetaRead, StoreError};
 use path_walk::Walked;
+use plan_ends::{finished, set_time};
 use std::alloc::Global;
 use tree_types::{Cred, Refusal, Reply};
 

@@ -9,7 +9,7 @@ use Rattle.lufs_base.specs.declared.geometry.Geometry.{Geometry}
 use Rattle.volume_model.specs.declared.device_call.DeviceCall.{DeviceCall}
 use Rattle.volume_model.specs.declared.device_call.DeviceCall.TheVariants.{Write}
 use Rattle.sector_disk.specs.Disk.{DiskTold, HasMade, Makes, NoneFailed}
-use Rattle.sector_disk.proofs.MadeCalls.{Fits, HasBegun, begun_more, begun_then, made_then}
+use Rattle.sector_disk.proofs.MadeCalls.{HasBegun, begun_more, begun_then, made_then, CanCount}
 use Rattle.new_volume.specs.Mkfs.{IsRoom, metadata_with, other_metadata, group_call, group_calls}
 
 -- the first n groups are written
@@ -51,7 +51,7 @@ calls_begun g first n groups old new within begun =
     let all : group_calls g first groups ≡ group_calls g first n ++ rest.0 = ap (λ (k : ℕ). group_calls g first k) (let same : groups ≡ n + (groups - n) = omega (arith, within) in same) ∙ rest.1 in
     subst (λ (calls : List DeviceCall). HasBegun calls old new) (sym all) (begun_more (group_calls g first n) rest.0 old new begun)
 
-pub groups_begun : (g : Geometry) (first : List ℕ) (n groups : ℕ) (old mid new : DiskTold) → n < groups → Fits old → HasMade (group_calls g first n) old mid
+pub groups_begun : (g : Geometry) (first : List ℕ) (n groups : ℕ) (old mid new : DiskTold) → n < groups → CanCount old → HasMade (group_calls g first n) old mid
     → HasBegun (group_call g first n ∷ []) mid new → HasBegun (group_calls g first groups) old new
 groups_begun g first n groups old mid new within fits made begun =
     let here : HasBegun (group_calls g first (n + 1)) old new =

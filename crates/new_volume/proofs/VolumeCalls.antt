@@ -6,11 +6,11 @@ use Rattle.volume_model.specs.declared.device_call.DeviceCall.{DeviceCall}
 use Rattle.volume_model.specs.declared.device_call.DeviceCall.TheVariants.{Write, Flush}
 use Rattle.volume_model.specs.Format.{super_bytes}
 use Rattle.sector_disk.specs.Disk.{DiskTold, HasMade, Makes}
-use Rattle.sector_disk.proofs.MadeCalls.{Fits, HasBegun, begun_more, begun_then, made_then, makes_then, fits_still}
+use Rattle.sector_disk.proofs.MadeCalls.{HasBegun, begun_more, begun_then, made_then, makes_then, fits_still, CanCount}
 use Rattle.new_volume.specs.Mkfs.{clearing, sealing, group_calls, volume_calls}
 
 -- The disk before, and after the parts that went one after the other.
-module _ (g : Geometry) (log first : List ℕ) (old : DiskTold) (fits : Fits old) where
+module _ (g : Geometry) (log first : List ℕ) (old : DiskTold) (fits : CanCount old) where
   abbrev logging : List DeviceCall
   logging = Write (header_sector g) log ∷ []
 
@@ -31,10 +31,10 @@ module _ (g : Geometry) (log first : List ℕ) (old : DiskTold) (fits : Fits old
     log_begun new begun = begun_then clearing (logging ++ ((groups ++ flushing) ++ last)) old cleared new fits clears (begun_more logging ((groups ++ flushing) ++ last) cleared new begun)
 
     module _ (logged : DiskTold) (logs : HasMade logging cleared logged) where
-      log_fits : Fits cleared
+      log_fits : CanCount cleared
       log_fits = fits_still clearing old cleared clears
 
-      group_fits : Fits logged
+      group_fits : CanCount logged
       group_fits = fits_still logging cleared logged logs
 
       -- a part of the calls after the log

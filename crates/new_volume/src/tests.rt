@@ -142,58 +142,91 @@ fn ends_of(alloc: Global, g: &Geometry) -> Result<[[u8; 8]; 5], TestFail>
     ])
 }
 
+/// Places of a new volume, and the eight bytes from there on.
+const MADE: &[(usize, [u8; 8])] = &[
+    // Superblock.
+    (8192, [0x00, 0x01, 0x19, 0x54, 0, 0, 0, 1]),
+    // Its numbers.
+    (8200, [0, 0, 0, 1, 0, 0, 0, 64]),
+    // More of them.
+    (8208, [0, 0, 0, 32, 0, 0, 1, 0]),
+    // Its blocks.
+    (8216, [0, 0, 0, 99, 0, 0, 0, 0]),
+    // Log header.
+    (12288, [0x4c, 0x55, 0x46, 0x53, 0, 0, 0, 1]),
+    // Head and tid.
+    (12296, [0, 0, 0, 0, 0, 0, 0, 1]),
+    // Ring.
+    (12800, [0; 8]),
+    // Group.
+    (143360, [0, 9, 2, 0x55, 0, 0, 0, 0]),
+    // Free of it.
+    (143368, [0, 0, 0, 29, 0, 0, 0, 61]),
+    // Inode bits.
+    (143392, [7, 0, 0, 0, 0, 0, 0, 0]),
+    // Block bits.
+    (143520, [7, 0, 0, 0, 0, 0, 0, 0]),
+    // Root.
+    (147712, [0x41, 0xed, 0, 2, 0, 0, 0, 0]),
+    // Its size.
+    (147728, [0, 0, 0, 0, 0, 0, 2, 0]),
+    // Its moment.
+    (147736, [0, 0, 0, 0, 0, 0, 3, 0xe8]),
+    // Its block.
+    (147744, [0, 0, 0, 37, 0, 0, 0, 0]),
+    // Its names.
+    (151552, [0, 0, 0, 2, 0, 12, 0, 1]),
+    // The second.
+    (151564, [0, 0, 0, 2, 0x01, 0xf4, 0, 2]),
+];
+
+fn has_bytes(image: &[u8]) -> bool {
+    MADE.iter()
+        .all(|(at, want)| eight_at(image, *at) == Some(want.as_slice()))
+}
+
+// Whether a new volume has these bytes, and is made by seven writes and flushes.
+fn is_made(alloc: Global) -> Result<bool, MkfsError> {
+    let mut disk = zeros(alloc, 792, &[])?;
+    mkfs(alloc, &mut disk, &SMALLEST, 1000)?;
+    let mut image = [0u8; 512 * 300];
+    if disk.calls() != 7 || disk.sectors() < 792 {
+        return Ok(false);
+    }
+    Ok(disk.read(0, &mut image).is_ok() && has_bytes(&image))
+}
+
 #[test]
 fn bytes_of_a_new_volume(rt: HostRuntime) -> Result<(), TestFail> {
-    let alloc = rt.alloc();
-    let mut disk = zeros(alloc, 792, &[])?;
-    assert_eq!(rt; mkfs(alloc, &mut disk, &SMALLEST, 1000), Ok(()));
-    assert_eq!(rt; disk.calls(), 7);
-    let mut image = [0u8; 512 * 300];
-    if disk.sectors() < 792 {
-        return Err("no sectors".into());
-    }
-    disk.read(0, &mut image)?;
-    for (what, at, want) in [
-        ("superblock", 8192, [0x00, 0x01, 0x19, 0x54, 0, 0, 0, 1]),
-        ("its numbers", 8200, [0, 0, 0, 1, 0, 0, 0, 64]),
-        ("more of them", 8208, [0, 0, 0, 32, 0, 0, 1, 0]),
-        ("its blocks", 8216, [0, 0, 0, 99, 0, 0, 0, 0]),
-        ("log header", 12288, [0x4c, 0x55, 0x46, 0x53, 0, 0, 0, 1]),
-        ("head and tid", 12296, [0, 0, 0, 0, 0, 0, 0, 1]),
-        ("ring", 12800, [0; 8]),
-        ("group", 143360, [0, 9, 2, 0x55, 0, 0, 0, 0]),
-        ("free of it", 143368, [0, 0, 0, 29, 0, 0, 0, 61]),
-        ("inode bits", 143392, [7, 0, 0, 0, 0, 0, 0, 0]),
-        ("block bits", 143520, [7, 0, 0, 0, 0, 0, 0, 0]),
-        ("root", 147712, [0x41, 0xed, 0, 2, 0, 0, 0, 0]),
-        ("its size", 147728, [0, 0, 0, 0, 0, 0, 2, 0]),
-        ("its moment", 147736, [0, 0, 0, 0, 0, 0, 3, 0xe8]),
-        ("its block", 147744, [0, 0, 0, 37, 0, 0, 0, 0]),
-        ("its names", 151552, [0, 0, 0, 2, 0, 12, 0, 1]),
-        ("the second", 151564, [0, 0, 0, 2, 0x01, 0xf4, 0, 2]),
-    ] {
-        assert_eq!(rt; eight_at(&image, at), Some(want.as_slice()), "{what}");
-    }
+    assert!(rt; is_made(rt.alloc()).map_err(|_| "no volume")?);
     Ok(())
+}
+
+/// The call that fails, the sectors of the disk, the answer, and how many writes and flushes were made.
+type Failing = (Fail, usize, Result<(), MkfsError>, u64);
+
+const FAILING: &[Failing] = &[
+    (Fail::Write(5), 791, Err(MkfsError::Sectors(791)), 0),
+    (Fail::Write(1), 792, Err(MkfsError::Disk), 1),
+    (Fail::Flush(1), 792, Err(MkfsError::Disk), 1),
+    (Fail::Write(2), 792, Err(MkfsError::Disk), 3),
+    (Fail::Write(3), 792, Err(MkfsError::Disk), 4),
+    (Fail::Flush(2), 792, Err(MkfsError::Disk), 4),
+    (Fail::Write(4), 792, Err(MkfsError::Disk), 6),
+    (Fail::Flush(3), 792, Err(MkfsError::Disk), 6),
+    (Fail::Write(5), 856, Ok(()), 7),
+];
+
+fn answers(alloc: Global, row: &Failing) -> Result<bool, Mem> {
+    let (fail, sectors, want, calls) = *row;
+    let mut disk = zeros(alloc, sectors, &[fail])?;
+    Ok(mkfs(alloc, &mut disk, &SMALLEST, 1000) == want && disk.calls() == calls)
 }
 
 #[test]
 fn disks_that_are_small_or_fail(rt: HostRuntime) -> Result<(), TestFail> {
-    let alloc = rt.alloc();
-    for (fail, sectors, want, calls) in [
-        (Fail::Write(5), 791, Err(MkfsError::Sectors(791)), 0),
-        (Fail::Write(1), 792, Err(MkfsError::Disk), 1),
-        (Fail::Flush(1), 792, Err(MkfsError::Disk), 1),
-        (Fail::Write(2), 792, Err(MkfsError::Disk), 3),
-        (Fail::Write(3), 792, Err(MkfsError::Disk), 4),
-        (Fail::Flush(2), 792, Err(MkfsError::Disk), 4),
-        (Fail::Write(4), 792, Err(MkfsError::Disk), 6),
-        (Fail::Flush(3), 792, Err(MkfsError::Disk), 6),
-        (Fail::Write(5), 856, Ok(()), 7),
-    ] {
-        let mut disk = zeros(alloc, sectors, &[fail])?;
-        assert_eq!(rt; mkfs(alloc, &mut disk, &SMALLEST, 1000), want, "{fail:?}");
-        assert_eq!(rt; disk.calls(), calls, "{fail:?}");
+    for row in FAILING {
+        assert!(rt; answers(rt.alloc(), row)?, "{row:?}");
     }
     Ok(())
 }

@@ -17,7 +17,7 @@ use Rattle.meta_store.specs.Changing.{Changing, AllTold, IsAsBefore, all_told}
 use Rattle.meta_store.specs.Changes.{Applies}
 use Rattle.meta_store.specs.Conditions.{MayApply}
 use Rattle.change_laws.specs.Hands.{times}
-use Rattle.change_rules.specs.Planned.{ino_of, IsSpent, MayPlan, IsPlanned}
+use Rattle.plan_ends.specs.Planned.{ino_of, IsSpent, MayPlan, IsPlanned}
 use Rattle.path_walk.specs.Answers.{end_of}
 use Rattle.path_walk.specs.declared.walked.Walked.{Walked}
 use Rattle.call_ops.specs.Asked.{IsWanting}

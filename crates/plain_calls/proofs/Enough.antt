@@ -14,7 +14,7 @@ use Rattle.history_model.specs.Wants.{create_wants, mkdir_wants, wants_at, block
 use Rattle.history_model.specs.Refusals.{Decision, Proceed, decision_at}
 use Rattle.history_model.specs.Replies.{reply_at, decided_reply, walked_reply, reply_of}
 use Rattle.history_model.specs.Histories.{makes_inode}
-use Rattle.history_model.proofs.CarriedOutLaws.{create_goes, mkdir_goes}
+use Rattle.history_rules.proofs.CarriedOutLaws.{create_goes, mkdir_goes}
 use Rattle.call_ops.specs.Served.{changes_names}
 use Rattle.plain_calls.specs.InHand.{HasEnough}
 

@@ -13,7 +13,7 @@ use Rattle.tree_types.specs.declared.reply.Reply.TheVariants as reply
 use Rattle.history_model.specs.Replies.{reply_of, tree_after}
 use Rattle.history_model.specs.Histories.{is_ok, is_carried_out, makes_inode, IsUsable}
 use Rattle.script_text.specs.ShortReplies.{is_short}
-use Rattle.change_rules.specs.Planned.{ino_of}
+use Rattle.plan_ends.specs.Planned.{ino_of}
 use Rattle.path_walk.specs.Answers.{end_of}
 use Rattle.path_walk.specs.declared.walked.Walked.{Walked}
 use Rattle.call_ops.specs.Served.{is_served}

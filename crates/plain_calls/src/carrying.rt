@@ -5,7 +5,7 @@ ghost use Rattle.lufs_base.specs.Name.{IsName};
 ghost use Rattle.volume_model.specs.Sound.{Tree};
 ghost use Rattle.history_model.specs.Replies.{reply_of, tree_after};
 ghost use Rattle.meta_store.specs.Changing.{all_told};
-ghost use Rattle.change_rules.specs.Planned.{ino_of};
+ghost use Rattle.plan_ends.specs.Planned.{ino_of};
 ghost use Rattle.call_ops.specs.Served.{changes_names, has_right_words};
 ghost use Rattle.call_ops.specs.Asked.{IsWanting};
 ghost use Rattle.plain_calls.specs.InHand.{Stands, HasHand};

@@ -13,14 +13,14 @@ use Rattle.volume_model.specs.declared.log.Header.{Header}
 use Rattle.volume_model.specs.Format.{Image, block}
 use Rattle.volume_model.specs.Crash.{image_after}
 use Rattle.sector_disk.specs.Disk.{DiskTold, HasMade, HasMadePartly, Makes}
-use Rattle.sector_disk.proofs.MadeCalls.{Fits, HasBegun, makes_then, makes_some, begun_then, begun_more, begun_none, fits_still}
+use Rattle.sector_disk.proofs.MadeCalls.{HasBegun, makes_then, makes_some, begun_then, begun_more, begun_none, fits_still, CanCount}
 use Rattle.plain_image.specs.HomeBlocks.{IsHome, differs, changed_blocks}
 use Rattle.plain_image.specs.WrittenBack.{home_call, home_calls, emptying, calls_that_write, write_back_calls, WritesHomes}
 use Rattle.plain_image.specs.HomesWritten.{is_other, IsStoppedAt, changed_below, HasHomes, HasStopped}
 use Rattle.plain_image.proofs.ChangedLists.{filter_split}
 use Rattle.plain_image.proofs.HomesLoop.{HasRoom, still_differs}
 
-module _ {T E : Type 0} (result : Result T E) (g : Geometry) (h : Header) (image : Image) (old new : DiskTold) (fits : Fits old) where
+module _ {T E : Type 0} (result : Result T E) (g : Geometry) (h : Header) (image : Image) (old new : DiskTold) (fits : CanCount old) where
   -- all home blocks are written, and the log is emptied, or in part
   pub all_form : (mid : DiskTold) → HasHomes g image (blocks_of g) old mid → Makes (Flush ∷ emptying g h) result mid new → WritesHomes g h image result old new
   all_form mid has makes = record {
@@ -51,7 +51,7 @@ module _ {T E : Type 0} (result : Result T E) (g : Geometry) (h : Header) (image
       subst (λ (calls : List DeviceCall). HasBegun calls old new) (split written tail)
       (begun_then (home_calls image written) (home_calls image tail ++ (Flush ∷ emptying g h)) old mid new fits made begun)
 
-  begun_next : (n : ℕ) (tail : List ℕ) (mid : DiskTold) → Fits mid → HasMadePartly (8 * n) (block image n) mid new → HasBegun (home_calls image (n ∷ tail) ++ (Flush ∷ emptying g h)) mid new
+  begun_next : (n : ℕ) (tail : List ℕ) (mid : DiskTold) → CanCount mid → HasMadePartly (8 * n) (block image n) mid new → HasBegun (home_calls image (n ∷ tail) ++ (Flush ∷ emptying g h)) mid new
   begun_next n tail mid fit partly =
       begun_more (home_call image n ∷ []) (home_calls image tail ++ (Flush ∷ emptying g h)) mid new
       (record { sectors = partly.sectors; tells = partly.tells; listed = (1, partly.listed); count = omega (arith, partly.count, fit) })

@@ -11,7 +11,7 @@ use Rattle.volume_model.specs.declared.device_call.DeviceCall.{DeviceCall}
 use Rattle.volume_model.specs.Format.{Image, block}
 use Rattle.volume_model.specs.Crash.{image_after}
 use Rattle.sector_disk.specs.Disk.{DiskTold, HasMade}
-use Rattle.sector_disk.proofs.MadeCalls.{Fits, made_then, no_calls}
+use Rattle.sector_disk.proofs.MadeCalls.{made_then, no_calls, CanCount}
 use Rattle.plain_image.specs.HomeBlocks.{IsHome, differs}
 use Rattle.plain_image.specs.WrittenBack.{home_call, home_calls}
 use Rattle.plain_image.specs.HomesWritten.{is_other, block_calls, changed_below, HasHomes}
@@ -44,7 +44,7 @@ module _ (g : Geometry) (image : Image) (enough : 4096 * blocks_of g ≤ length 
       let none : group_start g 0 - group_start g 0 ≡ 0 = omega arith in
       ap (λ (m : ℕ). filter (differs image before) (range_with_len (group_start g 0) m)) (sym none)
 
-  pub homes_none : (old : DiskTold) → Fits old → HasHomes g image (group_start g 0) old old
+  pub homes_none : (old : DiskTold) → CanCount old → HasHomes g image (group_start g 0) old old
   homes_none old fits = record {
     written = [];
     homes = λ k d below. absurd (omega (arith, below));

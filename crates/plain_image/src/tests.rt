@@ -2,10 +2,9 @@
 
 use crate::{read_image, write_image};
 use lufs_base::{BLOCK, DiskFault, Geometry, Mem};
-use meta_store::PlainStore;
+use meta_store::{PlainStore, StoreError};
 use sector_disk::{Disk, Fail, MemDisk};
 use std::alloc::Global;
-use std::test::Fail as TestFail;
 use volume_model::Header;
 
 /// Its home blocks are those from 35 to 98.
@@ -22,6 +21,21 @@ const HEADER: Header = Header {
     head: 9,
     tid: 7,
 };
+
+/// The call that fails, whether the image is written, and what is left: how many writes and flushes were made, and the
+/// first bytes of blocks 4, 35 and 98 with the last byte of the epoch in the log's header.
+type Written = (Fail, Result<(), DiskFault>, u64, [u8; 4]);
+
+const WRITTEN: &[Written] = &[
+    (Fail::Read(1), Err(DiskFault), 0, [0, 0, 0, 0]),
+    (Fail::Write(1), Err(DiskFault), 1, [0, 0, 0, 0]),
+    (Fail::Read(64), Err(DiskFault), 1, [0, 7, 0, 0]),
+    (Fail::Write(2), Err(DiskFault), 2, [0, 7, 0, 0]),
+    (Fail::Flush(1), Err(DiskFault), 2, [0, 7, 7, 0]),
+    (Fail::Write(3), Err(DiskFault), 4, [0, 7, 7, 0]),
+    (Fail::Flush(2), Err(DiskFault), 4, [0, 7, 7, 5]),
+    (Fail::Read(1_000), Ok(()), 5, [0, 7, 7, 5]),
+];
 
 // Zeros, but for the first bytes of a block of the log, of the first home block, and of the last one.
 fn changed(alloc: Global) -> Result<Vec<u8>, Mem> {
@@ -72,38 +86,39 @@ fn bytes_of(disk: &mut MemDisk) -> Result<[u8; 4], DiskFault> {
     ])
 }
 
-#[test]
-fn blocks_that_differ_are_written(rt: HostRuntime) -> Result<(), TestFail> {
-    let alloc = rt.alloc();
-    let image = changed(alloc)?;
-    for (fail, want, calls, left) in [
-        (Fail::Read(1), Err(DiskFault), 0, [0, 0, 0, 0]),
-        (Fail::Write(1), Err(DiskFault), 1, [0, 0, 0, 0]),
-        (Fail::Read(64), Err(DiskFault), 1, [0, 7, 0, 0]),
-        (Fail::Write(2), Err(DiskFault), 2, [0, 7, 0, 0]),
-        (Fail::Flush(1), Err(DiskFault), 2, [0, 7, 7, 0]),
-        (Fail::Write(3), Err(DiskFault), 4, [0, 7, 7, 0]),
-        (Fail::Flush(2), Err(DiskFault), 4, [0, 7, 7, 5]),
-        (Fail::Read(1_000), Ok(()), 5, [0, 7, 7, 5]),
-    ] {
-        let mut disk = zeros(alloc, fail)?;
-        assert_eq!(rt; write_back(&mut disk, &image), want, "{fail:?}");
-        assert_eq!(rt; disk.calls(), calls, "{fail:?}");
-        assert_eq!(rt; bytes_of(&mut disk)?, left, "{fail:?}");
+// Whether the image is written back, and leaves this of the disk.
+fn is_written(disk: &mut MemDisk, image: &[u8], row: &Written) -> Result<bool, DiskFault> {
+    let (_, want, calls, left) = row;
+    let written = write_back(disk, image) == *want && disk.calls() == *calls;
+    Ok(written && bytes_of(disk)? == *left)
+}
+
+fn are_written(alloc: Global, image: &[u8]) -> Result<bool, StoreError> {
+    for row in WRITTEN {
+        if !is_written(&mut zeros(alloc, row.0)?, image, row)? {
+            return Ok(false);
+        }
     }
-    Ok(())
+    Ok(true)
+}
+
+// Whether a store of these bytes is read whole.
+fn is_read(alloc: Global, image: &[u8]) -> Result<bool, StoreError> {
+    let copy = image.to_vec(alloc)?;
+    if copy.len() < 99 * BLOCK {
+        return Ok(false);
+    }
+    let mut store = PlainStore::new(&SMALLEST, copy);
+    Ok(read_image(alloc, &mut store)?.as_slice() == image)
+}
+
+fn is_served(alloc: Global) -> Result<bool, StoreError> {
+    let image = changed(alloc)?;
+    Ok(are_written(alloc, image.as_slice())? && is_read(alloc, image.as_slice())?)
 }
 
 #[test]
-fn images_are_read_whole(rt: HostRuntime) -> Result<(), TestFail> {
-    let alloc = rt.alloc();
-    let image = changed(alloc)?;
-    let copy = changed(alloc)?;
-    if copy.len() < 99 * BLOCK {
-        return Err("no image".into());
-    }
-    let mut store = PlainStore::new(&SMALLEST, copy);
-    let read = read_image(alloc, &mut store).map_err(|_| "not read")?;
-    assert!(rt; read.as_slice() == image.as_slice());
+fn images_written_and_read(rt: HostRuntime) -> Result<(), std::test::Fail> {
+    assert!(rt; is_served(rt.alloc())?);
     Ok(())
 }

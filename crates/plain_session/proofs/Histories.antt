@@ -13,7 +13,7 @@ use Rattle.volume_model.specs.Format.{Image, block}
 use Rattle.volume_model.specs.Sound.{Tree, StandsFor}
 use Rattle.history_model.specs.Lines.{first_caller}
 use Rattle.history_model.specs.Histories.{becomes, caller_of, after_call, replayed_on, IsRightReply, EachAfter, Legal, IsEntryOf}
-use Rattle.history_model.proofs.HistoryLaws.{legal-last, replayed-last}
+use Rattle.history_rules.proofs.HistoryLaws.{legal-last, replayed-last}
 use Rattle.call_ops.specs.Served.{is_served}
 use Rattle.plain_session.specs.ServedLines.{MayServe}
 use Rattle.plain_session.specs.Sessions.{IsAnswered, AreAnswered}

@@ -11,12 +11,12 @@ use Rattle.history_model.specs.Histories.{replay_of}
 use Rattle.history_model.specs.WorkedTrees.{new_tree}
 use Rattle.journal_model.specs.Versions.{Version}
 use Rattle.journal_model.specs.Batches.{is_released}
-use Rattle.journal_model.specs.Room.{Fits}
+use Rattle.journal_model.specs.Room.{HasSpaceFor}
 use Rattle.history_laws.specs.Named.{named_block}
 use Rattle.history_laws.specs.Volumes.{Volume}
 use Rattle.history_laws.specs.WorkedSession.{Times, volume_as_made}
 use Rattle.meta_store.specs.Merged.{placed, merged, all_merged}
-use Rattle.plan_laws.specs.Tied.{running_with, journal_after}
+use Rattle.store_laws.specs.Tied.{running_with, journal_after}
 use Rattle.worked_session.specs.FourChanges.{mkdir_change, new_reading, reading_of_directory}
 use Rattle.worked_session.specs.FiveEntries.{entry_one}
 use Rattle.worked_session.specs.Journals.{first_journal, inside, with_directory, journal_one, history_of}
@@ -31,7 +31,7 @@ use Rattle.worked_session.proofs.Opening.{opening_stage}
 use Rattle.worked_session.proofs.StageSteps.{change_stage, drafted_reads}
 use Rattle.worked_session.proofs.Transitions.{begins, admits, leaves, tells}
 
-mkdir_fits : Fits smallest first_journal 4000
+mkdir_fits : HasSpaceFor smallest first_journal 4000
 mkdir_fits = lit≤ tt
 
 -- block 38 may be given out

@@ -12,7 +12,7 @@ use Rattle.history_model.specs.Edits.{edited, edited_all}
 use Rattle.history_model.specs.Replies.{reply_of, tree_after}
 use Rattle.history_model.specs.Histories.{replay_of}
 use Rattle.history_model.specs.WorkedTrees.{directory_of, empty_file, new_tree, tree_of_nodes}
-use Rattle.history_model.proofs.FileImageLaws.{past_nodes}
+use Rattle.history_rules.proofs.SmallTreeLaws.{past_nodes}
 use Rattle.history_laws.specs.WorkedSession.{Times, lettered_file, tree_with_directory, tree_with_letters}
 use Rattle.history_laws.proofs.WorkedTreesReplayed.{of_mkdir, of_rmdir, of_create, all_elsewhere, tree_is}
 use Rattle.worked_session.specs.FourChanges.{root_naming, new_reading, reading_of_directory, reading_of_file, reading_of_letters}

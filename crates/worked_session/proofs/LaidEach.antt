@@ -9,9 +9,9 @@ use Rattle.lufs_base.specs.Layout.{blocks_of}
 use Rattle.lufs_base.specs.declared.geometry.Geometry.{Geometry}
 use Rattle.lufs_base.specs.declared.delta.Delta.{Delta}
 use Rattle.volume_model.specs.Format.{Image, Blocks, block}
-use Rattle.volume_model.specs.Log.{is_cancel}
+use Rattle.volume_model.specs.Log.{is_cancel, lays_on}
 use Rattle.meta_store.specs.LaidSize.{length-laid_over}
-use Rattle.meta_store.specs.Laid.{laid_over, lays_on}
+use Rattle.meta_store.specs.Laid.{laid_over}
 use Rattle.meta_store.specs.Changes.{deltas_on}
 use Rattle.meta_store.proofs.ImageLaid.{nothing_over, laid_over_append}
 use Rattle.meta_store.proofs.MergedTable.{IsLoggable}

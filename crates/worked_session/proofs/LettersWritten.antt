@@ -14,8 +14,8 @@ use Rattle.history_model.specs.WorkedTrees.{with_rights, new_tree}
 use Rattle.journal_model.specs.Versions.{Version, Running}
 use Rattle.journal_model.specs.BlockRoles.{is_claimed}
 use Rattle.journal_model.specs.Batches.{is_released, is_freed_owner}
-use Rattle.journal_model.specs.Room.{Fits}
 use Rattle.journal_model.specs.Steps.{IsRawWrite}
+use Rattle.journal_model.specs.Room.{HasSpaceFor}
 use Rattle.journal_laws.proofs.RoleFacts.{unclaimed_no_metadata}
 use Rattle.history_laws.specs.Applied.{with_running}
 use Rattle.history_laws.specs.Named.{byte_in, HasByteOf}
@@ -26,7 +26,7 @@ use Rattle.history_laws.specs.WorkedSession.{Times, letters, tree_with_letters}
 use Rattle.history_laws.proofs.AppliedEntries.{entry_passes}
 use Rattle.history_laws.proofs.PlacedWrites.{hand_writes}
 use Rattle.meta_store.specs.Merged.{placed, merged, all_merged}
-use Rattle.plan_laws.specs.Tied.{running_with, journal_after}
+use Rattle.store_laws.specs.Tied.{running_with, journal_after}
 use Rattle.worked_session.specs.FourChanges.{write_change, reading_of_file, reading_of_letters}
 use Rattle.worked_session.specs.FiveEntries.{entry_one, entry_two, entry_three, entry_four, entry_five}
 use Rattle.worked_session.specs.Journals.{inside, with_file, with_letters, journal_three, history_of}
@@ -40,7 +40,7 @@ use Rattle.worked_session.proofs.FourTrees.{letters_shape, after_four}
 use Rattle.worked_session.proofs.StageSteps.{keeps, base_reads, change_stage, drafted_reads}
 use Rattle.worked_session.proofs.Transitions.{begins, admits, leaves, tells, passes, writes}
 
-write_fits : Fits smallest with_file 4000
+write_fits : HasSpaceFor smallest with_file 4000
 unfolding all_merged merged placed
 write_fits = lit≤ tt
 

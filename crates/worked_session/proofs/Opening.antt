@@ -25,8 +25,8 @@ use Rattle.history_laws.proofs.OpenedVolumes.{ok, stands, content_of_new}
 use Rattle.history_laws.proofs.SameMetadata.{same_front}
 use Rattle.history_laws.proofs.SessionsBegin.{comes_to_end}
 use Rattle.history_laws.proofs.VolumeRolesLaws.{roles_of_volume}
-use Rattle.plan_laws.specs.Tied.{owners_by_bits, IsRead, running_image}
-use Rattle.plan_laws.proofs.OpenedRead.{begins_by_bits, read_by_bits}
+use Rattle.store_laws.specs.Tied.{owners_by_bits, IsRead, running_image}
+use Rattle.store_laws.proofs.OpenedRead.{begins_by_bits, read_by_bits}
 use Rattle.worked_session.specs.FourChanges.{new_reading}
 use Rattle.worked_session.specs.Journals.{first_owners, first_journal}
 use Rattle.worked_session.specs.Stages.{Here, Stage}

@@ -11,12 +11,12 @@ use Rattle.history_model.specs.Histories.{replay_of}
 use Rattle.history_model.specs.WorkedTrees.{new_tree}
 use Rattle.journal_model.specs.Versions.{Version}
 use Rattle.journal_model.specs.Batches.{is_released}
-use Rattle.journal_model.specs.Room.{Fits}
+use Rattle.journal_model.specs.Room.{HasSpaceFor}
 use Rattle.history_laws.specs.Named.{named_block}
 use Rattle.history_laws.specs.Volumes.{Volume}
 use Rattle.history_laws.specs.WorkedSession.{Times}
 use Rattle.meta_store.specs.Merged.{placed, merged, all_merged}
-use Rattle.plan_laws.specs.Tied.{running_with, journal_after}
+use Rattle.store_laws.specs.Tied.{running_with, journal_after}
 use Rattle.worked_session.specs.FourChanges.{rmdir_change, new_reading, reading_of_directory}
 use Rattle.worked_session.specs.FiveEntries.{entry_one, entry_two}
 use Rattle.worked_session.specs.Journals.{inside, journal_one, without_directory, journal_two, history_of}
@@ -30,7 +30,7 @@ use Rattle.worked_session.proofs.FourTrees.{new_shape, after_two}
 use Rattle.worked_session.proofs.StageSteps.{change_stage, drafted_reads}
 use Rattle.worked_session.proofs.Transitions.{begins, admits, leaves, tells}
 
-rmdir_fits : Fits smallest journal_one 4000
+rmdir_fits : HasSpaceFor smallest journal_one 4000
 unfolding all_merged merged placed
 rmdir_fits = lit≤ tt
 

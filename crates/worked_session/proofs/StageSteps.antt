@@ -46,10 +46,10 @@ use Rattle.meta_store.specs.Changes.{changed, frees_metadata, deltas_on, writes_
 use Rattle.meta_store.specs.Conditions.{IsInBlock, MayFollow}
 use Rattle.meta_store.specs.Laid.{laid_over}
 use Rattle.meta_store.proofs.MergedTable.{each_loggable}
-use Rattle.plan_laws.specs.Tied.{MayChange, running_image, running_with, roles_with, journal_after, with_entry}
-use Rattle.plan_laws.proofs.ReadsStay.{still_read}
-use Rattle.plan_laws.proofs.StepsOfChanges.{bytes_changed, read_after}
-use Rattle.plan_laws.proofs.VolumesOfChanges.{applied_step}
+use Rattle.store_laws.specs.Tied.{MayChange, running_image, running_with, roles_with, journal_after, with_entry}
+use Rattle.store_laws.proofs.ReadsStay.{still_read}
+use Rattle.store_laws.proofs.StepsOfChanges.{bytes_changed, read_after}
+use Rattle.store_laws.proofs.VolumesOfChanges.{applied_step}
 use Rattle.worked_session.specs.Stages.{at_volume, Leads, Goes, Stage}
 use Rattle.worked_session.proofs.LaidEach.{laid_each, each_laid}
 use Rattle.worked_session.proofs.Checks.{ArePassed, follows_by_tests}

@@ -17,7 +17,7 @@ use Rattle.history_model.specs.WorkedTrees.{new_tree}
 use Rattle.journal_model.specs.Journals.{SealedTx, Journal}
 use Rattle.journal_model.specs.Versions.{Version, Published, Running, next_header, running_tx}
 use Rattle.journal_model.specs.BlockRoles.{Stays, Seals, Publishes, moved, moved_from}
-use Rattle.journal_model.specs.Room.{used_sectors, Fits}
+use Rattle.journal_model.specs.Room.{used_sectors, HasSpaceFor}
 use Rattle.journal_model.specs.Steps.{IsRawWrite, published_owner, Admit, RawWrite, Seal, LogWrite, Publish}
 use Rattle.journal_laws.proofs.Outcomes.{no_calls, present_after, byte_written, blocks_fit}
 use Rattle.journal_laws.proofs.RollFacts.{geometry_at_home}
@@ -59,7 +59,7 @@ module _ {from : Volume} {j : Journal} {h : History} {held : Version → ℕ} {m
   pub passes : IsPassing smallest 1000 new_tree h.entries (held Running) → Stage from j h (with_running held (suc (held Running))) map_of those
   passes passing = beside h (with_running held (suc (held Running))) (Passes passing)
 
-  pub admits : (need : ℕ) → Fits smallest j need → Stage from (record j { members = j.members + 1; unspent = j.unspent + need }) h held map_of those
+  pub admits : (need : ℕ) → HasSpaceFor smallest j need → Stage from (record j { members = j.members + 1; unspent = j.unspent + need }) h held map_of those
   admits need fits =
       let k : Journal = record j { members = j.members + 1; unspent = j.unspent + need } in
       let w = at_volume (with_calls s.r []) k s.roles h held in

@@ -16,7 +16,7 @@ use Rattle.history_laws.specs.Named.{named_block}
 use Rattle.history_laws.specs.Published.{reading_in}
 use Rattle.history_laws.specs.Volumes.{Volume}
 use Rattle.history_laws.specs.WorkedSession.{Times}
-use Rattle.plan_laws.specs.Tied.{running_image}
+use Rattle.store_laws.specs.Tied.{running_image}
 use Rattle.worked_session.specs.FourChanges.{used_with, directory_three, reading_of_directory, reading_of_letters}
 use Rattle.worked_session.specs.FiveEntries.{entry_one, entry_two, entry_three, entry_four, entry_five, times_of}
 use Rattle.worked_session.specs.Journals.{journal_one, journal_three, history_of}

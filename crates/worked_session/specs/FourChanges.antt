@@ -8,7 +8,7 @@ use Rattle.volume_model.specs.Sound.{Single, UsedInode, Unused, InUse, Reading}
 use Rattle.volume_model.specs.Worked.{smallest, made_root}
 use Rattle.history_model.specs.WorkedTrees.{first_chunk, slot}
 use Rattle.meta_store.specs.declared.change.Change.{Change}
-use Rattle.meta_draft.specs.Deltas.{group_delta, inode_delta, chunk_delta, zero_delta, cancel_delta}
+use Rattle.meta_store.specs.Deltas.{group_delta, inode_delta, chunk_delta, zero_delta, cancel_delta}
 
 -- the group's record with these counts, and these bits of its first eight inodes and blocks
 abbrev pub group_of_counts : (inodes others inode_bits block_bits : ℕ) → GroupRecord

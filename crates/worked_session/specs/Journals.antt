@@ -9,7 +9,7 @@ use Rattle.journal_model.specs.Journals.{Owner, Journal, new_journal}
 use Rattle.journal_model.specs.Versions.{running_tx}
 use Rattle.journal_model.specs.Mount.{next_epoch}
 use Rattle.journal_model.specs.Steps.{published_owner}
-use Rattle.plan_laws.specs.Tied.{owners_by_bits, journal_after}
+use Rattle.store_laws.specs.Tied.{owners_by_bits, journal_after}
 use Rattle.worked_session.specs.FourChanges.{mkdir_change, rmdir_change, create_change, write_change, new_reading}
 
 -- as the mount leaves it

@@ -13,7 +13,7 @@ use Rattle.history_laws.specs.Volumes.{Volume}
 use Rattle.history_laws.specs.VolumeSteps.{VolumeStep}
 use Rattle.history_laws.specs.Sessions.{Session}
 use Rattle.history_laws.specs.WorkedSession.{new_disk}
-use Rattle.plan_laws.specs.Tied.{IsRead, running_image}
+use Rattle.store_laws.specs.Tied.{IsRead, running_image}
 
 abbrev pub at_volume : Record → Journal → Roles → History → (Version → ℕ) → Volume
 at_volume r j roles h held = record { r = r; j = j; roles = roles; h = h; held = held; hands = [] }

@@ -6,7 +6,7 @@ use Rattle.meta_store.specs.declared.change.Change.{Change}
 use Rattle.meta_store.specs.Changing.{all_told}
 use Rattle.meta_store.specs.Changes.{numbers_in}
 use Rattle.meta_store.specs.NoChange.{no_change}
-use Rattle.meta_draft.specs.Deltas.{inode_delta}
+use Rattle.meta_store.specs.Deltas.{inode_delta}
 use Rattle.meta_draft.specs.Drafted.{with_delta}
 use Rattle.path_walk.specs.Answers.{end_of}
 use Rattle.name_ops.proofs.PlannedStores.{told_no_inode}

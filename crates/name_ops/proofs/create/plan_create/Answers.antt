@@ -8,7 +8,7 @@ use Rattle.meta_store.specs.Changing.{all_told}
 use Rattle.meta_store.specs.Conditions.{MayApply}
 use Rattle.meta_store.specs.NoChange.{no_change}
 use Rattle.draft_laws.specs.Drafts.{IsRecorded}
-use Rattle.change_rules.proofs.PlanApplies.{nothing_recorded, may_apply}
+use Rattle.plan_ends.proofs.PlanApplies.{nothing_recorded, may_apply}
 use Rattle.path_walk.specs.Answers.{end_of}
 use Rattle.name_ops.specs.declared.wanted.Wanted.{Wanted}
 use Rattle.name_ops.proofs.PlannedStores.{AnswersOf, Planned, told_refused, told_nothing, told_done, told_tight, moved_drawn, room_for}

@@ -4,7 +4,7 @@ use Rattle.std.proofs.lemmas.Bool.{ltb-true}
 use Rattle.lufs_base.specs.declared.geometry.Geometry.{Geometry}
 use Rattle.volume_model.specs.declared.inode.Dinode.{Dinode}
 use Rattle.volume_model.specs.Format.{inodes_of, IsDinode, dinode_bytes}
-use Rattle.meta_draft.specs.Deltas.{inode_delta}
+use Rattle.meta_store.specs.Deltas.{inode_delta}
 use Rattle.meta_draft.specs.Drafted.{with_delta}
 use Rattle.name_ops.proofs.LostLinks.{IsRecordRead, told_past, told_unused, told_less}
 use Rattle.name_ops.proofs.links.lose_link.Goals as goal

@@ -4,7 +4,7 @@ use Rattle.volume_model.specs.declared.inode.Dinode.{Dinode}
 use Rattle.volume_model.specs.declared.directory.Slot.{Slot}
 use Rattle.volume_model.specs.Format.{dinode_bytes, chunk_bytes, new_directory}
 use Rattle.meta_store.specs.declared.change.Change.{Change}
-use Rattle.meta_draft.specs.Deltas.{inode_delta, chunk_delta, zero_delta}
+use Rattle.meta_store.specs.Deltas.{inode_delta, chunk_delta, zero_delta}
 use Rattle.meta_draft.specs.Drafted.{with_delta}
 use Rattle.name_ops.specs.NewRecords.{with_directory}
 use Rattle.name_ops.proofs.mkdir.put_directory.Goals as goal

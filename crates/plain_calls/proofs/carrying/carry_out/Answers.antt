@@ -5,7 +5,7 @@ use Rattle.meta_store.specs.Store.{plain_told}
 use Rattle.meta_store.specs.Changing.{AllTold, all_told}
 use Rattle.meta_store.specs.Plain.{plain_changing}
 use Rattle.meta_store.specs.Conditions.{MayApply}
-use Rattle.change_rules.specs.Planned.{MayPlan}
+use Rattle.plan_ends.specs.Planned.{MayPlan}
 use Rattle.path_walk.specs.Answers.{end_of}
 use Rattle.plain_calls.proofs.Applied.{told_same}
 use Rattle.plain_calls.proofs.Carried.{may_plan, carried_stands}

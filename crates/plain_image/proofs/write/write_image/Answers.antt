@@ -1,34 +1,34 @@
 use Rattle.std.proofs.Common.{arith}
-use Rattle.sector_disk.proofs.MadeCalls.{Fits}
 use Rattle.plain_image.proofs.BlockSteps.{on_err}
 use Rattle.plain_image.proofs.HomesLoop.{room_of}
 use Rattle.plain_image.proofs.BackCalls.{all_form, all_calls, stopped_form, stopped_calls}
 use Rattle.plain_image.proofs.BackContent.{holds_image, stopped_partly, all_partly}
 use Rattle.plain_image.proofs.write.write_image.Goals as goal
+use Rattle.sector_disk.proofs.MadeCalls.{CanCount}
 
 pub returns-in_err-write_homes-clause-calls : goal.returns-in_err-write_homes-clause-calls
 returns-in_err-write_homes-clause-calls g c =
     let old = g.D.Disk.told c.args.disk.now in
-    let fits : Fits old = omega (arith, c.calls-calls.ensures.value) in
+    let fits : CanCount old = omega (arith, c.calls-calls.ensures.value) in
     stopped_calls c.from_residual.result c.args.g.now c.args.header.now c.args.image.now old _ fits c.requires.image c.from_residual.ensures.0 c.in_err-write_homes.ensures.stopped
     (room_of c.args.g.now old.present old.sectors (g.met.D.Disk.size c.args.disk.now) c.requires.room)
 
 pub returns-in_err-write_homes-clause-form : goal.returns-in_err-write_homes-clause-form
 returns-in_err-write_homes-clause-form g c =
     let old = g.D.Disk.told c.args.disk.now in
-    let fits : Fits old = omega (arith, c.calls-calls.ensures.value) in
+    let fits : CanCount old = omega (arith, c.calls-calls.ensures.value) in
     stopped_form c.from_residual.result c.args.g.now c.args.header.now c.args.image.now old _ fits c.from_residual.ensures.0 c.in_err-write_homes.ensures.stopped
 
 pub returns-clause-calls : goal.returns-clause-calls
 returns-clause-calls g c =
     let old = g.D.Disk.told c.args.disk.now in
-    let fits : Fits old = omega (arith, c.calls-calls.ensures.value) in
+    let fits : CanCount old = omega (arith, c.calls-calls.ensures.value) in
     all_calls c.empty_log.result c.args.g.now c.args.header.now c.args.image.now old _ fits (g.D.Disk.told c.write_homes.new.disk) c.in_ok-write_homes.ensures.written c.empty_log.ensures.calls
 
 pub returns-clause-form : goal.returns-clause-form
 returns-clause-form g c =
     let old = g.D.Disk.told c.args.disk.now in
-    let fits : Fits old = omega (arith, c.calls-calls.ensures.value) in
+    let fits : CanCount old = omega (arith, c.calls-calls.ensures.value) in
     all_form c.empty_log.result c.args.g.now c.args.header.now c.args.image.now old _ fits (g.D.Disk.told c.write_homes.new.disk) c.in_ok-write_homes.ensures.written c.empty_log.ensures.calls
 
 pub returns-in_err-write_homes-clause-partly : goal.returns-in_err-write_homes-clause-partly

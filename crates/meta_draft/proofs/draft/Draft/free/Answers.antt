@@ -2,7 +2,7 @@ use Rattle.std.proofs.Common.{List, ap, ◌∙◌, arith}
 use Rattle.lufs_base.specs.declared.delta.Delta.{Delta}
 use Rattle.volume_model.specs.Log.{delta_bytes}
 use Rattle.meta_store.specs.Merged.{merged}
-use Rattle.meta_draft.specs.Deltas.{cancel_delta}
+use Rattle.meta_store.specs.Deltas.{cancel_delta}
 use Rattle.meta_draft.proofs.MergedBytes.{merged_no_longer}
 use Rattle.meta_draft.proofs.draft.Draft.free.Goals as goal
 

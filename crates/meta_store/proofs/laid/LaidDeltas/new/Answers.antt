@@ -7,8 +7,8 @@ use Rattle.std.specs.List.{list_any, filter}
 use Rattle.std.proofs.lemmas.List.{take_more}
 use Rattle.lufs_base.specs.declared.delta.Delta.{Delta}
 use Rattle.volume_model.specs.declared.log.Tx.{Tx}
-use Rattle.volume_model.specs.Log.{is_cancel, cancels}
-use Rattle.meta_store.specs.Laid.{lays_on, laid_on}
+use Rattle.volume_model.specs.Log.{is_cancel, cancels, lays_on}
+use Rattle.meta_store.specs.Laid.{laid_on}
 use Rattle.meta_store.specs.Index.{deltas_of}
 use Rattle.meta_store.proofs.LiveDeltas.{nothing_laid_on, laid_on_more}
 use Rattle.meta_store.proofs.laid.LaidDeltas.new.Goals as goal
